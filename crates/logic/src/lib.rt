@@ -1,0 +1,2 @@
+// The logic: states, formulas, and what it means that a formula holds.
+pub mod types;
