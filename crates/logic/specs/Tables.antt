@@ -82,6 +82,46 @@ tree table f = treeTo (suc f) table f
 unfoldable pub loose : List Formula → ℕ → Bool
 loose table f = isLoose (tree table f)
 
+-- whether a formula is loose, where `part` says which of its parts are
+abbrev pub looseBy : Formula → (part : ℕ → Bool) → Bool
+looseBy True part = false
+looseBy (Signal b) part = false
+looseBy (Nominal a) part = false
+looseBy (Not f) part = part f
+looseBy (And f g) part = part f || part g
+looseBy (Or f g) part = part f || part g
+looseBy (Next f) part = part f
+looseBy (Previous f) part = part f
+looseBy (Until f g) part = part f || part g
+looseBy (Since f g) part = part f || part g
+looseBy (At a f) part = part f
+looseBy Variable part = true
+looseBy (Reference a) part = true
+looseBy (Bind f) part = false
+looseBy (Some a f) part = false
+
+-- whether a formula binds the variable
+abbrev pub binds : Formula → Bool
+binds True = false
+binds (Signal b) = false
+binds (Nominal a) = false
+binds (Not f) = false
+binds (And f g) = false
+binds (Or f g) = false
+binds (Next f) = false
+binds (Previous f) = false
+binds (Until f g) = false
+binds (Since f g) = false
+binds (At a f) = false
+binds Variable = false
+binds (Reference a) = false
+binds (Bind f) = true
+binds (Some a f) = true
+
+-- the flags of the first m formulas say which of them are loose
+abbrev pub Flagged : List Formula → List Bool → (m : ℕ) → Type 0
+Flagged table flags m = (f : ℕ) → f < m → getD flags f false ≡ loose table f
+
 -- Every formula of an orderly table is its operator over its parts.
 abbrev pub TreesUnfold : Type 0
 TreesUnfold = (table : List Formula) → OrderlyTable table → (f : ℕ) → f < length table →
