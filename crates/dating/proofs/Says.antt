@@ -1,11 +1,12 @@
 -- What a dated number says of a truncation point, and how that goes with what is kept.
-use mathlib.Core.Path.{_≡_, refl}
+use mathlib.Core.Path.{_≡_, refl, sym, subst}
 use mathlib.Core.Logic.{_⊎_, inl, inr, ⊎-map, _↔_, Iff·trans}
 use mathlib.Core.Bool.{Bool, true, false, cond, not}
 use Prim.Native.Nat.{ℕ, suc, _≤_, _<_}
 use native.Mathlib.Omega.{arith}
+use lib.Dec.{T}
 use lib.IntN.{ℤ, pos, negℤ, _+ℤ_}
-use lib.Signed.{_≤ℤ_, _<ℤ_, ltZ, leZ}
+use lib.Signed.{_≤ℤ_, _<ℤ_, ltZ, leZ, ltZ-yes, leZ-yes}
 use Rattle.std.specs.Numbers.{maxZ, minZ}
 use Rattle.std.specs.Orderings.{Decides}
 use Rattle.std.proofs.shelf.Tests.{cases-lt, false≢true}
@@ -22,29 +23,17 @@ Says false c z = trueFrom c ≤ℤ z
 lt-true : (a b : ℤ) → a <ℤ b → ltZ a b ≡ true
 lt-true a b h = grind (arith, ints)
 
-lt-from : (a b : ℤ) → ltZ a b ≡ true → a <ℤ b
-lt-from a b h = by-ltZ a b (λ k. k) (λ k. absurd (false≢true (le-not a b k h)))
-  where
-    le-not : (a b : ℤ) → b ≤ℤ a → ltZ a b ≡ true → false ≡ true
-    le-not a b k h = grind (arith, ints)
-
 le-true : (a b : ℤ) → a ≤ℤ b → leZ a b ≡ true
 le-true a b h = grind (arith, ints)
-
-le-from : (a b : ℤ) → leZ a b ≡ true → a ≤ℤ b
-le-from a b h = by-ltZ b a (λ k. absurd (false≢true (lt-not a b k h))) (λ k. k)
-  where
-    lt-not : (a b : ℤ) → b <ℤ a → leZ a b ≡ true → false ≡ true
-    lt-not a b k h = grind (arith, ints)
 
 pub dated-says : (r : Bool) (c : ℕ) (z : ℤ) → (dated z r c ≡ true) ↔ Says r c z
 unfolding trueFrom falseFrom
 dated-says true c z = (
-  λ h. let k = lt-from (pos c) (z +ℤ pos 257) h in omega (arith, ints),
+  λ h. let k : pos c <ℤ (z +ℤ pos 257) = ltZ-yes (subst T (sym h) tt) in omega (arith, ints),
   λ h. lt-true (pos c) (z +ℤ pos 257) (omega (arith, ints)),
 )
 dated-says false c z = (
-  λ h. let k = le-from (pos 257) (z +ℤ pos c) h in omega (arith, ints),
+  λ h. let k : pos 257 ≤ℤ (z +ℤ pos c) = leZ-yes (subst T (sym h) tt) in omega (arith, ints),
   λ h. le-true (pos 257) (z +ℤ pos c) (omega (arith, ints)),
 )
 

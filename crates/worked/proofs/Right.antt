@@ -1,17 +1,17 @@
 -- The examples come out right: each claim follows from a test that is computed.
 use mathlib.Core.Path.{_≡_, refl, sym, subst}
 use mathlib.Core.List.{List, [], _∷_}
-use mathlib.Core.Bool.{Bool, true, false, not, _&&_, _||_}
+use mathlib.Core.Bool.{Bool, true, false, not, _&&_}
 use mathlib.Core.Logic.{inl, inr}
 use Prim.Native.Nat.{ℕ, zero, suc, _≤_, _<_, min}
 use native.Mathlib.Omega.{arith}
-use lib.Dec.{ltb, leb}
+use lib.Dec.{T, ltb, leb}
 use lib.ListN.{length, getD}
 use lib.IntN.{ℤ, pos}
-use lib.Signed.{leZ, _≤ℤ_, _<ℤ_}
+use lib.Signed.{leZ, leZ-yes, _≤ℤ_}
 use Rattle.std.specs.Orderings.{Decides}
 use Rattle.std.specs.shelf.Lists.{All}
-use Rattle.std.proofs.shelf.Signed.{ints, by-ltZ}
+use Rattle.std.proofs.shelf.Signed.{ints}
 use Rattle.std.proofs.shelf.Tests.{cases-eq, leb-true, ltb-true, and-parts, false≢true}
 use Rattle.std.proofs.shelf.Ways.{decides-at}
 use Rattle.logic.specs.declared.types.State.{State}
@@ -47,19 +47,17 @@ same-by false true h = absurd (false≢true h)
 same-by false false h = refl
 
 equal-by : (a b : ℤ) → (leZ a b && leZ b a) ≡ true → a ≡ b
-equal-by a b h = let p = and-parts (leZ a b) (leZ b a) h in let x = from a b (p .0) in let y = from b a (p .1) in omega (arith, ints)
-  where
-    over : (a b : ℤ) → b <ℤ a → leZ a b ≡ true → false ≡ true
-    over a b k h = grind (arith, ints)
-
-    from : (a b : ℤ) → leZ a b ≡ true → a ≤ℤ b
-    from a b h = by-ltZ b a (λ k. absurd (false≢true (over a b k h))) (λ k. k)
+equal-by a b h =
+    let p = and-parts (leZ a b) (leZ b a) h in
+    let x : a ≤ℤ b = leZ-yes (subst T (sym (p .0)) tt) in
+    let y : b ≤ℤ a = leZ-yes (subst T (sym (p .1)) tt) in
+    omega (arith, ints)
 
 -- the states are lawful and few enough for labels, the table is orderly, and formula f is in it
 abbrev sound : List Formula → List State → (f : ℕ) → Bool
 sound table xs f = lawful′ xs && (orderly′ table && (leb (length xs) 256 && ltb f (length table)))
 
-pub record Sound (table : List Formula) (xs : List State) (f : ℕ) : Type 0 where
+record Sound (table : List Formula) (xs : List State) (f : ℕ) : Type 0 where
   pub lawful : LawfulRecord xs
   pub orderly : OrderlyTable table
   pub few : length xs ≤ 256
