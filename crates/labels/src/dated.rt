@@ -9,6 +9,9 @@ ghost use Rattle.labels.specs.Readings.{Same, DateOf, negated, seen};
 ghost use Rattle.labels.specs.Dated.{dated};
 use super::LabelKind;
 
+// The last truncation point that a dated label tells of.
+const REACH: usize = 256;
+
 // 0 is unknown, 257 - d is true from point d on, and d - 257 is false from point d on.
 #[derive(Drop, Clone, Copy)]
 pub struct Dated {
@@ -55,11 +58,11 @@ pub impl LabelKind for Dated as DatedKind {
     }
 
     fn length() -> usize {
-        256
+        REACH
     }
 
     fn read(self, weak: bool, point: usize) -> bool {
-        if point > 256 {
+        if point > REACH {
             return weak;
         }
         let point = point as i16;
