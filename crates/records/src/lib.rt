@@ -1,0 +1,3 @@
+// Records of states: what every record answers, what a growing record accepts, and the records that come with the product.
+pub mod readable;
+pub mod growing;
