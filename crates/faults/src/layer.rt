@@ -1,0 +1,7 @@
+// The layer that refuses a call.
+#[derive(Drop, Clone, Copy)]
+pub enum Layer {
+    Line,
+    Table,
+    Monitor,
+}

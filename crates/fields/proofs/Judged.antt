@@ -1,0 +1,40 @@
+use Prim.Native.Nat.{ℕ}
+use mathlib.Core.List.{List}
+use mathlib.Core.Path.{_≡_, refl, sym, _∙_, ap, subst}
+use Rattle.faults.specs.declared.line.LineFault.{LineFault}
+use Rattle.faults.specs.declared.line.LineFault.the-variants as fault
+use Rattle.fields.specs.Lines.{FirstLine, Torn}
+use Rattle.fields.specs.Kinds.{Kind, Shows, Unformed, Unranged, Refuses}
+use Rattle.fields.proofs.Ends.{one-line}
+
+-- a kind whose lines show one value at most
+abbrev pub Single : Kind → Type 0
+Single K = (v w : K .Value) → K .Formed v → K .Formed w → K .written v ≡ K .written w → v ≡ w
+
+module _ (K : Kind) (single : Single K) (text : List ℕ) where
+  pub one-shown : (v w : K .Value) (r s : List ℕ) → Shows K text v r → Shows K text w s → (v ≡ w) × (r ≡ s)
+  one-shown v w r s a b =
+      let d = one-line text (K .written v) (K .written w) r s (a .line) (b .line) in
+      (single v w (a .formed) (b .formed) (d .0), d .1)
+
+  -- a line that shows a value in range is not refused
+  pub fit-or-refused : (v : K .Value) (rest : List ℕ) (place : ℕ) (e : LineFault) → Shows K text v rest → K .Ranged v → Refuses K text place e → ⊥
+  fit-or-refused v rest place (fault.Torn at) s r (p, t) = t (K .written v) rest (s .line)
+  fit-or-refused v rest place (fault.Form at) s r (p, (line, u, f, none)) =
+      none v (s .formed) (one-line text line (K .written v) u rest f (s .line) .0)
+  fit-or-refused v rest place (fault.Range at) s r (p, (w, u, t, out)) =
+      out (subst (K .Ranged) (one-shown v w rest u s t .0) r)
+
+  -- a line gets one number at most
+  pub one-refusal : (place : ℕ) (e f : LineFault) → Refuses K text place e → Refuses K text place f → e ≡ f
+  one-refusal place (fault.Torn a) (fault.Torn b) (p, x) (q, y) = ap fault.Torn (p ∙ sym q)
+  one-refusal place (fault.Torn a) (fault.Form b) (p, t) (q, (line, u, f, none)) = absurd (t line u f)
+  one-refusal place (fault.Torn a) (fault.Range b) (p, t) (q, (w, u, s, out)) = absurd (t (K .written w) u (s .line))
+  one-refusal place (fault.Form a) (fault.Torn b) (p, (line, u, f, none)) (q, t) = absurd (t line u f)
+  one-refusal place (fault.Form a) (fault.Form b) (p, x) (q, y) = ap fault.Form (p ∙ sym q)
+  one-refusal place (fault.Form a) (fault.Range b) (p, (line, u, f, none)) (q, (w, v, s, out)) =
+      absurd (none w (s .formed) (one-line text line (K .written w) u v f (s .line) .0))
+  one-refusal place (fault.Range a) (fault.Torn b) (p, (w, u, s, out)) (q, t) = absurd (t (K .written w) u (s .line))
+  one-refusal place (fault.Range a) (fault.Form b) (p, (w, v, s, out)) (q, (line, u, f, none)) =
+      absurd (none w (s .formed) (one-line text line (K .written w) u v f (s .line) .0))
+  one-refusal place (fault.Range a) (fault.Range b) (p, x) (q, y) = ap fault.Range (p ∙ sym q)

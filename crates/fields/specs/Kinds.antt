@@ -1,0 +1,35 @@
+-- The judgement of a line. A kind of line is given by how it is written: what values it can show, and which of them are in range.
+use Prim.Native.Nat.{ℕ}
+use mathlib.Core.List.{List}
+use mathlib.Core.Path.{_≡_}
+use Rattle.faults.specs.declared.line.LineFault.{LineFault}
+use Rattle.faults.specs.declared.line.LineFault.the-variants as fault
+use Rattle.fields.specs.Lines.{FirstLine, Torn}
+
+pub record Kind : Type 1 where
+  pub Value : Type 0
+  -- the line that shows a value
+  pub written : Value → List ℕ
+  -- its numbers have at most ten digits
+  pub Formed : Value → Type 0
+  -- its numbers are in their ranges
+  pub Ranged : Value → Type 0
+
+-- the text's first line shows a value, in the form of the kind
+pub record Shows (K : Kind) (text : List ℕ) (v : K .Value) (rest : List ℕ) : Type 0 where
+  pub line : FirstLine text (K .written v) rest
+  pub formed : K .Formed v
+
+-- the text has a first line, and that shows no value
+abbrev pub Unformed : Kind → List ℕ → Type 0
+Unformed K text = (line : List ℕ) × (rest : List ℕ) × FirstLine text line rest × ((v : K .Value) → K .Formed v → line ≡ K .written v → ⊥)
+
+-- the first line shows a value that is out of range
+abbrev pub Unranged : Kind → List ℕ → Type 0
+Unranged K text = (v : K .Value) × (rest : List ℕ) × Shows K text v rest × (K .Ranged v → ⊥)
+
+-- The first line is refused: it gets the first number that fits, so its whole form is judged before any range.
+abbrev pub Refuses : Kind → (text : List ℕ) → (place : ℕ) → LineFault → Type 0
+Refuses K text place (fault.Torn at) = (at ≡ place) × Torn text
+Refuses K text place (fault.Form at) = (at ≡ place) × Unformed K text
+Refuses K text place (fault.Range at) = (at ≡ place) × Unranged K text
