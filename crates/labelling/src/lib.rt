@@ -1,0 +1,2 @@
+// Labels of all states of a record at all formulas of a table.
+mod rows;
