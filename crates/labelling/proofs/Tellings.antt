@@ -10,7 +10,7 @@ use lib.ListN.{length}
 use Rattle.std.specs.Orderings.{Decides}
 use Rattle.std.proofs.shelf.Tests.{cases-lt, cases-eq, false≢true, lt-ltb, le-ltb, cond-true, cond-false}
 use Rattle.std.proofs.shelf.Ways.{decides-like, decides-at, decides-and, decides-or, decides-not, same-from-decides}
-use Rattle.labels.specs.Readings.{Reading, negated, both, either, seen, fixed}
+use Rattle.labels.specs.Readings.{Reading, negated, both, either, seen}
 use Rattle.logic.specs.States.{Trace}
 use Rattle.logic.specs.Logic.{Tree, not′, and′, or′, next, previous, until, since, at′, Carries, Nameless, Kept, Reads, isLoose}
 use Rattle.logic.proofs.Keeps.{kept-in, kept-out, kept-past, past}
@@ -20,6 +20,7 @@ use Rattle.labelling.specs.Rows.{cell, at, prior, Filled}
 use Rattle.labelling.specs.Tells.{Tells, NominalPlace}
 use Rattle.labelling.proofs.Cells.{cell-past}
 use Rattle.labelling.proofs.Fills.{prior-next, prior-none, untilAt, UntilFrom, sinceAt}
+use Rattle.labelling.proofs.Decisions.{DecidedTo}
 use Rattle.labelling.proofs.Readings.{until-decides, since-decides, at-kept, at-none}
 
 twice : (e : Bool) → not (not e) ≡ e
@@ -71,17 +72,13 @@ module _ {K : Type 0} (reads : K → Reading) (reach n : ℕ) (s : Trace) (v : �
         (cases-lt (min c n) i)
 
   module _ (own : List K) (long : length own ≡ n) where
-    pub tells-here : (φ : Tree) (b : ℕ → Bool) (X : ℕ → Type 0) → ((p : ℕ) → p < n → Decides (b p) (X (p + 1)))
-        → ((r : Bool) (c i : ℕ) → Kept r c i (X i) → Reads r s c v i φ) → ((r : Bool) (c i : ℕ) → Reads r s c v i φ → Kept r c i (X i))
-        → Filled reads reach (λ q. fixed (q + 1) (b q)) own n → Tells reads reach n s v φ own
-    tells-here φ b X decided into out filled =
-        tells-by own long (λ q. fixed (q + 1) (b q)) filled φ
-        (λ e c i lo hi w z. cond-true _ _ _ (lt-ltb c (i - 1 + 1) (omega arith)))
-        (λ e c i lo hi pos w.
-        let back : i - 1 + 1 ≡ i = omega arith in
-        decides-at _ _ (cond-false _ _ _ (le-ltb c (i - 1 + 1) (omega arith)))
-        (decides-like _ (λ x. into e (min c n) i (kept-in e (min c n) i w x)) (λ k. kept-out e (min c n) i w (out e (min c n) i k))
-        (subst (λ j. Decides (b (i - 1)) (X j)) back (decided (i - 1) (omega arith)))))
+    -- a row whose labels decide the formula at each of its states tells of it
+    pub tells-decided : (φ : Tree) → DecidedTo reads reach (λ i e c. Reads e s (min c n) v i φ) own n → Tells reads reach n s v φ own
+    tells-decided φ d e c i lo hi pos =
+        ⊎-elim
+        (λ (w : n < i). decides-at _ _ (cell-past reads own (i - 1) e c (omega arith)) (past e s (min c n) v i φ (omega arith)))
+        (λ (w : i ≤ n). d i e c pos w lo hi)
+        (cases-lt n i)
 
     module _ (φ : Tree) (a : List K) (ta : Tells reads reach n s v φ a) where
       pub tells-not : Filled reads reach (λ q. negated (cell reads a q)) own n → Tells reads reach n s v (not′ φ) own

@@ -6,7 +6,7 @@ ghost use lib.ListN.{length};
 ghost use Rattle.labels.specs.Readings.{Same};
 ghost use Rattle.logic.specs.States.{Trace};
 ghost use Rattle.logic.specs.Logic.{Tree, not′, and′, or′, next, previous, until, since, at′};
-ghost use Rattle.logic.proofs.Uniques.{UniqueTo};
+ghost use Rattle.logic.specs.Lawful.{LawfulTo};
 ghost use Rattle.labelling.specs.Rows.{part, cell, Elsewhere};
 ghost use Rattle.labelling.specs.Tells.{Tells, NominalPlace};
 use labels::LabelKind;
@@ -104,7 +104,7 @@ pub(crate) fn label_since<K: LabelKind + Copy>(n: usize, a: usize, b: usize, own
 pub(crate) fn label_named<K: LabelKind + Copy>(n: usize, a: usize, place: usize, own: usize, cells: &mut [K])
     requires apart { ⌜ (a + n ≤ own) × (own + n ≤ length (now cells)) ⌝ }
     ensures others { λ _. ⌜ Elsewhere own n (now (cells .entry)) (now (cells .exit)) ⌝ }
-    ensures told { λ _. ⌜ ((s : Trace) (v name : ℕ) (f : Tree) → UniqueTo n s → NominalPlace s n name place → Tells reads reach n s v f (part a n (now (cells .entry))) → Tells reads reach n s v (at′ name f) (part own n (now (cells .exit)))) ⌝ }
+    ensures told { λ _. ⌜ ((s : Trace) (v name : ℕ) (f : Tree) → LawfulTo n s → NominalPlace s n name place → Tells reads reach n s v f (part a n (now (cells .entry))) → Tells reads reach n s v (at′ name f) (part own n (now (cells .exit)))) ⌝ }
 {
     let there = label_at(n, a, place, cells);
     for p in 0..n {

@@ -3,6 +3,7 @@ use mathlib.Core.Bool.{cond}
 use Prim.Native.Nat.{_+_}
 use native.Mathlib.Omega.{arith}
 use lib.Dec.{ltb}
+use Rattle.logic.proofs.Uniques.{unique}
 use Rattle.labels.specs.Readings.{seen}
 use Rattle.labelling.specs.Rows.{cell, part}
 use Rattle.labelling.proofs.Places.{length-part}
@@ -29,7 +30,7 @@ returns g c =
     let xs = c .loop-p .cells in
     record {
       others = c .loop-p .inv .0;
-      told = λ s v name f one place ta.
+      told = λ s v name f law place ta.
           tells-at (g .K·LabelKind .reads) (g .K·LabelKind .reach) n s v (part (c .args .own) n xs) (length-part (c .args .own) n xs (omega arith)) f
-          (part (c .args .a) n (c .args .cells .now)) ta name (c .args .place) one place (λ q e k less. c .loop-p .inv .1 q e k (omega arith));
+          (part (c .args .a) n (c .args .cells .now)) ta name (c .args .place) (unique n s law) place (λ q e k less. c .loop-p .inv .1 q e k (omega arith));
     }
