@@ -6,3 +6,5 @@ pub mod Decisions
 pub mod Tellings
 pub mod Leaves
 pub mod Nodes
+pub mod Bounds
+pub mod Cones
