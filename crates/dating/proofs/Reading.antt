@@ -15,7 +15,8 @@ use Rattle.logic.specs.States.{Trace}
 use Rattle.logic.specs.Logic.{Tree, true′, signal, nominal, not′, and′, or′, next, previous, until, since, at′, variable, reference, bind, some′, Shows, Carries, Refers, Kept, Reads, weak, strong, Nameless, AtNominal}
 use Rattle.logic.proofs.Keeps.{past}
 use Rattle.logic.proofs.Uniques.{UniqueTo, unique}
-use Rattle.dating.specs.Dated.{trueFrom, falseFrom, seen, dated}
+use Rattle.labels.specs.Dated.{dated}
+use Rattle.dating.specs.Dated.{trueFrom, falseFrom, seen}
 use Rattle.dating.specs.Labels.{shows, carries, isKind, refers, untilFrom, sinceTo, atNominal, label}
 use Rattle.dating.specs.Laws.{LabelsRead}
 use Rattle.dating.proofs.Says.{Says, dated-says, says-min, says-max, says-neg, says-true, says-unknown, says-seen, says-when, says-test, kept-iff, kept, kept-or, sum-iff, settled-before, settled-not, settled-and, settled-or}

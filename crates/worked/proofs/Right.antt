@@ -20,7 +20,8 @@ use Rattle.logic.specs.States.{Trace, stateAt}
 use Rattle.logic.specs.Logic.{Tree, Reads, strong}
 use Rattle.logic.specs.Lawful.{LawfulRecord}
 use Rattle.logic.specs.Tables.{OrderlyTable, treeTo, tree}
-use Rattle.dating.specs.Dated.{trueFrom, falseFrom, seen, dated}
+use Rattle.labels.specs.Dated.{dated}
+use Rattle.dating.specs.Dated.{trueFrom, falseFrom, seen}
 use Rattle.dating.specs.Labels.{untilFrom, sinceTo, atNominal, label}
 use Rattle.dating.proofs.Reading.{labels-read}
 use Rattle.worked.specs.Examples.{Labelled, Raising, Offered, labels, raisings, offers}
