@@ -1,6 +1,6 @@
 // Strips: labels of two masks, for logs of up to 64 states.
 ghost use mathlib.Core.Path.{_≡_};
-ghost use mathlib.Core.Bool.{Bool, true, false, not};
+ghost use mathlib.Core.Bool.{true, false};
 ghost use Prim.Native.Nat.{ℕ, _+_, _-_, _<_, _≤_, _^_, min};
 ghost use lib.Dec.{eqb};
 ghost use lib.Count.{trailingZeros};
@@ -28,6 +28,7 @@ pub impl LabelKind for Strip as StripKind {
 
     ghost reads = { λ x. strip (x .weak) (x .strong) };
 
+    // Its weak mask is all ones and its strong mask is 0.
     fn unknown() -> Strip {
         true_since(REACH + 1)
     }
@@ -160,6 +161,7 @@ fn bits_before(i: usize) -> u64
     }
 }
 
+// Bit k of the mask.
 fn has_bit(mask: u64, k: usize) -> bool
     requires { ⌜ k < 64 ⌝ }
     ensures { λ r. ⌜ r ≡ bit mask k ⌝ }
