@@ -8,3 +8,4 @@ pub mod Leaves
 pub mod Nodes
 pub mod Bounds
 pub mod Cones
+pub mod Publishes

@@ -6,13 +6,14 @@ use mathlib.Core.Logic.{_⊎_}
 use Prim.Native.Nat.{ℕ, _+_, _*_, _≤_, _<_, min}
 use lib.ListN.{length, getD, drop}
 use Rattle.std.specs.Orderings.{Decides}
-use Rattle.labels.specs.Readings.{Reading}
+use Rattle.labels.specs.Readings.{Reading, opened}
 use Rattle.logic.specs.declared.types.Formula.{Formula}
 use Rattle.logic.specs.declared.types.Formula.the-variants.{True}
 use Rattle.logic.specs.declared.types.Reference.{Reference}
 use Rattle.logic.specs.States.{Trace}
 use Rattle.logic.specs.Logic.{Tree, Reads}
 use Rattle.logic.specs.Tables.{tree, loose, EachPart}
+use Rattle.labelling.specs.Rows.{cell, Filled}
 use Rattle.labelling.specs.Tells.{Tells, row}
 
 -- of the first m formulas, those that are not loose are told, whatever the variable is bound to
@@ -48,3 +49,10 @@ abbrev pub Grown : ℕ → List Bool → List Bool → List Bool → Type 0
 Grown f flags old new = (k : ℕ) → (getD old k false ≡ true → getD new k false ≡ true)
     × (f ≤ k → getD new k false ≡ getD old k false)
     × (getD new k false ≡ true → (getD old k false ≡ true) ⊎ (getD flags k false ≡ true))
+
+-- the first m rows of the label memory: unknown where the formula is flagged as loose, else they read as those of the working
+-- memory
+abbrev pub Published : {K : Type 0} → (K → Reading) → (reach n : ℕ) → List Bool → List K → List K → (m : ℕ) → Type 0
+Published reads reach n flags work cells m = (g : ℕ) → g < m →
+    (getD flags g false ≡ true → Filled reads reach (λ q. opened) (row n g cells) n)
+    × (getD flags g false ≡ false → Filled reads reach (λ q. cell reads (row n g work) q) (row n g cells) n)

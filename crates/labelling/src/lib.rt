@@ -2,3 +2,4 @@
 mod binders;
 mod passes;
 mod rows;
+pub mod whole;
