@@ -4,7 +4,11 @@ ghost use lib.ListN.{length};
 ghost use denote.Ref.{now};
 use logic::types::State;
 
-pub mod calls;
+mod calls;
+mod writes;
+
+pub use calls::TableGrowing;
+pub use calls::TableReadable;
 
 #[derive(Drop)]
 pub struct TableRecord<'a> {
