@@ -2,6 +2,7 @@
 pub mod change;
 pub mod change_record;
 pub mod cut;
+mod firsts;
 pub mod growing;
 pub mod readable;
 pub mod rows;

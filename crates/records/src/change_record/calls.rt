@@ -42,7 +42,7 @@ pub impl Growing for ChangeRecord as ChangeGrowing {
     }
 
     fn append(&mut self, state: State) -> Result<(), Full> {
-        if self.held() == self.capacity() {
+        if self.held() >= self.capacity() {
             return Err(Full);
         }
         self.put(state);
