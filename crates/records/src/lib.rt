@@ -1,5 +1,5 @@
 // Records of states: what every record answers, what a growing record accepts, and the records that come with the product.
-pub mod change;
+mod change;
 pub mod change_record;
 pub mod cut;
 mod firsts;
