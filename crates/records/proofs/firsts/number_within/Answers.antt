@@ -1,5 +1,5 @@
 use Rattle.records.proofs.Numbered.{state-taken, state-untaken}
-use Rattle.records.proofs.cut.within.Needs as need
+use Rattle.records.proofs.firsts.number_within.Needs as need
 
 pub returns-then-i-limit : need.returns-then-i-limit
 returns-then-i-limit c = λ xs. state-taken xs _ _ (c .if-i-limit .taken)
