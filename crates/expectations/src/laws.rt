@@ -1,0 +1,1 @@
+// The laws of expectations. Each function is there for its contract, which says the law.
