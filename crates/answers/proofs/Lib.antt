@@ -1,2 +1,4 @@
 pub mod Refusing
 pub mod Tested
+pub mod Accepting
+pub mod Stepping
