@@ -100,21 +100,22 @@ module _ (G : Ground) (F : Founded G) (xs : List State) (law : LawfulRecord xs) 
       notices-in-order (G .labelled xs) (G .rules) c j k x y l (notice-stands G xs c j x e) (notice-stands G xs c k y f)
 
   all-judged : Judged G xs
-  all-judged = record
-      { lawful = law
-      ; takes-what-may-follow = takes-fit G xs
-      ; may-follow-is-taken = fit-takes G xs
-      ; true-is-so = true-so
-      ; false-is-not = false-not
-      ; labels-grow = grows
-      ; points-stay = point-stays
-      ; verdicts-stay = verdict-stays
-      ; standings-stay = standing-stays
-      ; notices-stay = notice-stays
-      ; tallies-sum = tally-sums
-      ; notices-once = notice-once
-      ; notices-in-order = notice-order
-      ; no-gaps = no-more-after G xs }
+  all-judged = record {
+    lawful = law;
+    takes-what-may-follow = takes-fit G xs;
+    may-follow-is-taken = fit-takes G xs;
+    true-is-so = true-so;
+    false-is-not = false-not;
+    labels-grow = grows;
+    points-stay = point-stays;
+    verdicts-stay = verdict-stays;
+    standings-stay = standing-stays;
+    notices-stay = notice-stays;
+    tallies-sum = tally-sums;
+    notices-once = notice-once;
+    notices-in-order = notice-order;
+    no-gaps = no-more-after G xs;
+  }
 
 pub judged : (G : Ground) → Founded G → (xs : List State) → LawfulRecord xs → length xs ≤ 256 → Judged G xs
 judged = all-judged

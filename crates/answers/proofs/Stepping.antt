@@ -67,8 +67,8 @@ own-more G start calls k own own′ xs xs′ answers z h h′ ez ex eo inv =
       ex ∙ own-grown own G xs call (inv .0) ∙ ap (λ ys. after G ys call) (inv .1) ∙ sym (accepted-push G start (take k calls) call)
           ∙ ap (accepted G start) (sym (take-more calls k (Append blank) h)),
       below-more (λ j. getD (set answers k z) j foreign ≡ told G (accepted G start (take j calls)) (getD calls j (Append blank))) k
-      (λ j l. let ne : j ≢ k = omega arith in getD-set-other answers k j z foreign ne ∙ inv .2 j l)
-      (getD-set-same answers k z foreign h′ ∙ ez ∙ own-told own G xs call (inv .0) ∙ ap (λ ys. told G ys call) (inv .1)),
+          (λ j l. let ne : j ≢ k = omega arith in getD-set-other answers k j z foreign ne ∙ inv .2 j l)
+          (getD-set-same answers k z foreign h′ ∙ ez ∙ own-told own G xs call (inv .0) ∙ ap (λ ys. told G ys call) (inv .1)),
     )
 
 pub foreign-more : (k : ℕ) (answers : List Answer) (z : Answer) → k < length answers → z ≡ foreign → ForeignSoFar k answers → ForeignSoFar (k + 1) (set answers k z)
@@ -81,11 +81,12 @@ foreign-more k answers z h e inv =
 pub ran : (G : Ground) (start : List State) (calls : List Call) (k own : ℕ) (xs : List State) (answers : List Answer) → k ≡ length calls
     → (0 ≡ length start → OwnSoFar G start calls k own xs answers) → ((0 ≡ length start → ⊥) → (xs ≡ start) × ForeignSoFar k answers)
     → Ran G start calls answers xs
-ran G start calls k own xs answers all mine others = record
-    { foreign-record = λ some. let o = others (λ e. omega arith) in (o .0, λ j l. o .1 j (omega arith))
-    ; own-record = λ e.
-        let o = mine (sym e) in
-        let none : start ≡ [] = nil-from-length start e in (
-          o .1 ∙ ap₂ (accepted G) none (take-all k calls (omega arith)),
-          λ j l. o .2 j (omega arith) ∙ ap (λ ys. told G (accepted G ys (take j calls)) (getD calls j (Append blank))) none,
-        ) }
+ran G start calls k own xs answers all mine others = record {
+  foreign-record = λ some. let o = others (λ e. omega arith) in (o .0, λ j l. o .1 j (omega arith));
+  own-record = λ e.
+      let o = mine (sym e) in
+      let none : start ≡ [] = nil-from-length start e in (
+        o .1 ∙ ap₂ (accepted G) none (take-all k calls (omega arith)),
+        λ j l. o .2 j (omega arith) ∙ ap (λ ys. told G (accepted G ys (take j calls)) (getD calls j (Append blank))) none,
+      );
+}

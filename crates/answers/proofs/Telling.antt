@@ -44,13 +44,14 @@ pub record Asked (G : Ground) (n f i c : ℕ) : Type 0 where
 
 -- the same label at another point, over as many states or more
 pub asked-more : (G : Ground) (n m f i c d : ℕ) → Asked G n f i c → n ≤ m → i ≤ d → d ≤ m → Asked G m f i d
-asked-more G n m f i c d a more low high = record
-    { is-formula = a .is-formula
-    ; is-closed = a .is-closed
-    ; state-from = a .state-from
-    ; state-to = omega (arith, a .state-to)
-    ; point-from = low
-    ; point-to = high }
+asked-more G n m f i c d a more low high = record {
+  is-formula = a .is-formula;
+  is-closed = a .is-closed;
+  state-from = a .state-from;
+  state-to = omega (arith, a .state-to);
+  point-from = low;
+  point-to = high;
+}
 
 label-asked : (G : Ground) (xs : List State) (f i c : ℕ) → refusalOf G xs (LabelAt f i c) ≡ None → Asked G (length xs) f i c
 label-asked G xs f i c e =
@@ -60,13 +61,14 @@ label-asked G xs f i c e =
     let point = no-reason (outside c i (length xs)) refusal.NoSuchPoint _ (state .1) in
     let at = within i 1 (length xs) (state .0) in
     let by = within c i (length xs) (point .0) in
-    record
-    { is-formula = leb-false (G .formulas) f (known .0)
-    ; is-closed = closed .0
-    ; state-from = at .0
-    ; state-to = at .1
-    ; point-from = by .0
-    ; point-to = by .1 }
+    record {
+      is-formula = leb-false (G .formulas) f (known .0);
+      is-closed = closed .0;
+      state-from = at .0;
+      state-to = at .1;
+      point-from = by .0;
+      point-to = by .1;
+    }
 
 asked-label : (G : Ground) (xs : List State) (f i c : ℕ) → Asked G (length xs) f i c → refusalOf G xs (LabelAt f i c) ≡ None
 asked-label G xs f i c a =

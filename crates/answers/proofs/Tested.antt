@@ -57,9 +57,10 @@ takes-fit G xs x e =
     let few = no-reason (leb 256 (length xs)) refusal.TooManyStates _ e in
     let room = no-reason (leb (G .capacity) (length xs)) refusal.RecordFull _ (few .1) in
     let free = no-reason (taken xs x) (refusal.NominalTaken (length xs + 1)) _ (room .1) in
-    let led = no-reason (misled x (length xs + 1)) (refusal.ReferenceUnfit (length xs + 1)) _ (free .1) in
-    ((leb-false 256 (length xs) (few .0), (not-from-decides (taken xs x) (taken-decides xs x) (free .0), not-from-decides (misled x (length xs + 1)) (misled-decides xs x) (led .0))),
-    leb-false (G .capacity) (length xs) (room .0))
+    let led = no-reason (misled x (length xs + 1)) (refusal.ReferenceUnfit (length xs + 1)) _ (free .1) in (
+      (leb-false 256 (length xs) (few .0), (not-from-decides (taken xs x) (taken-decides xs x) (free .0), not-from-decides (misled x (length xs + 1)) (misled-decides xs x) (led .0))),
+      leb-false (G .capacity) (length xs) (room .0),
+    )
 
 pub fit-takes : (G : Ground) (xs : List State) (x : State) → MayFollow xs x → length xs < G .capacity → Takes G xs x
 fit-takes G xs x may room =
