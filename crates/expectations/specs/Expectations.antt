@@ -2,7 +2,7 @@
 -- points, are numbered from 1, and rules from 0.
 use mathlib.Core.List.{List, [], _∷_, _++_}
 use mathlib.Core.Bool.{Bool, true, false, cond, _&&_}
-use Prim.Native.Nat.{ℕ, zero, suc, _+_}
+use Prim.Native.Nat.{ℕ, zero, suc, _+_, _^_, _<_}
 use lib.Dec.{eqb, leb}
 use Rattle.logic.specs.declared.types.Rule.{Rule}
 use Rattle.expectations.specs.declared.types.Label.{Label}
@@ -105,6 +105,10 @@ added x t = record
     ; pending = t .pending + cond (isPending x) 1 0
     ; fulfilled = t .fulfilled + cond (isFulfilled x) 1 0
     ; violated = t .violated + cond (isViolated x) 1 0 }
+
+-- each count of the tally is a number of 64 bits
+abbrev pub Countable : Tally → Type 0
+Countable t = (t .raised < 2 ^ 64) × (t .pending < 2 ^ 64) × (t .fulfilled < 2 ^ 64) × (t .violated < 2 ^ 64)
 
 -- ── Notices ──
 
