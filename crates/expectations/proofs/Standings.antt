@@ -97,6 +97,7 @@ standing-lasts true z c e l h = judged-lasts z c e l h
 standing-lasts false z c e l h = refl
 
 pub decisions-last : DecisionsLast
-decisions-last c e l =
-    ( (λ z h. verdict-lasts z c e l h)
-    , (λ labels r s h. standing-lasts (raises labels r s) (labels (r .content) s) c e l h) )
+decisions-last c e l = (
+  (λ z h. verdict-lasts z c e l h),
+  (λ labels r s h. standing-lasts (raises labels r s) (labels (r .content) s) c e l h),
+)

@@ -53,8 +53,8 @@ module _ (labels : Labels) (c : ℕ) where
       all-append P (onlyIf _ (notice k s Raising)) _
       (only-all P _ (notice k s Raising) (λ h. let p = up _ h in (refl, refl, (true-is _ _ (p .0), eqb-true s c (p .1)))))
       (all-append P (onlyIf _ (notice k s Fulfilling)) _
-          (only-all P _ (notice k s Fulfilling) (λ h. let p = up _ h in (refl, refl, (true-is _ _ (p .0), true-is _ _ (p .1)))))
-          (only-all P _ (notice k s Violating) (λ h. let p = up _ h in (refl, refl, (true-is _ _ (p .0), false-is _ _ (p .1))))))
+      (only-all P _ (notice k s Fulfilling) (λ h. let p = up _ h in (refl, refl, (true-is _ _ (p .0), true-is _ _ (p .1)))))
+      (only-all P _ (notice k s Violating) (λ h. let p = up _ h in (refl, refl, (true-is _ _ (p .0), false-is _ _ (p .1))))))
 
   pub from-state-all : (k : ℕ) (r : Rule) (m s : ℕ) → All (FromState k r m s) (fromState labels c k r m s)
   from-state-all k r zero s = tt
@@ -89,7 +89,7 @@ module _ (labels : Labels) (c : ℕ) where
       let x = notice k s Violating in
       stands-right (onlyIf (raises labels r s && eqb s c) (notice k s Raising)) _ x
       (stands-right (onlyIf (raises labels r s && trueFrom (labels (r .content) s) c) (notice k s Fulfilling)) _ x
-          (only-stands _ x (and-from _ _ (is-true _ _ (h .0)) (is-false _ _ (h .1)))))
+      (only-stands _ x (and-from _ _ (is-true _ _ (h .0)) (is-false _ _ (h .1)))))
 
   from-state-stands : (k : ℕ) (r : Rule) (m s t : ℕ) (x : Notice) → s ≤ t → t < s + m → Stands (ofState labels c k r t) x → Stands (fromState labels c k r m s) x
   from-state-stands k r zero s t x a b h = absurd (omega arith)

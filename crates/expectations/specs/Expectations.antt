@@ -2,7 +2,7 @@
 -- points, are numbered from 1, and rules from 0.
 use mathlib.Core.List.{List, [], _∷_, _++_}
 use mathlib.Core.Bool.{Bool, true, false, cond, _&&_}
-use Prim.Native.Nat.{ℕ, zero, suc, _+_, _^_, _<_}
+use Prim.Native.Nat.{ℕ, zero, suc, _+_}
 use lib.Dec.{eqb, leb}
 use Rattle.logic.specs.declared.types.Rule.{Rule}
 use Rattle.expectations.specs.declared.types.Label.{Label}
@@ -89,26 +89,24 @@ isViolated (Violated d) = true
 
 -- the rule's expectations of states 1 to n, counted by their standings at c
 abbrev pub tallied : Labels → Rule → (c n : ℕ) → Tally
-tallied labels r c n = record
-    { raised = count (λ s. isRaised (standing labels r s c)) n
-    ; pending = count (λ s. isPending (standing labels r s c)) n
-    ; fulfilled = count (λ s. isFulfilled (standing labels r s c)) n
-    ; violated = count (λ s. isViolated (standing labels r s c)) n }
+tallied labels r c n = record {
+  raised = count (λ s. isRaised (standing labels r s c)) n;
+  pending = count (λ s. isPending (standing labels r s c)) n;
+  fulfilled = count (λ s. isFulfilled (standing labels r s c)) n;
+  violated = count (λ s. isViolated (standing labels r s c)) n;
+}
 
 abbrev pub noTally : Tally
 noTally = record { raised = 0; pending = 0; fulfilled = 0; violated = 0 }
 
 -- a tally with one standing more
 abbrev pub added : Standing → Tally → Tally
-added x t = record
-    { raised = t .raised + cond (isRaised x) 1 0
-    ; pending = t .pending + cond (isPending x) 1 0
-    ; fulfilled = t .fulfilled + cond (isFulfilled x) 1 0
-    ; violated = t .violated + cond (isViolated x) 1 0 }
-
--- each count of the tally is a number of 64 bits
-abbrev pub Countable : Tally → Type 0
-Countable t = (t .raised < 2 ^ 64) × (t .pending < 2 ^ 64) × (t .fulfilled < 2 ^ 64) × (t .violated < 2 ^ 64)
+added x t = record {
+  raised = t .raised + cond (isRaised x) 1 0;
+  pending = t .pending + cond (isPending x) 1 0;
+  fulfilled = t .fulfilled + cond (isFulfilled x) 1 0;
+  violated = t .violated + cond (isViolated x) 1 0;
+}
 
 -- ── Notices ──
 
