@@ -1,6 +1,7 @@
 -- Which refusal an unlawful record gets: that of its first unlawful state.
-use mathlib.Core.List.{List}
-use Prim.Native.Nat.{ℕ, _≤_, _<_}
+use mathlib.Core.Path.{_≡_}
+use mathlib.Core.List.{List, [], _∷_, _++_}
+use Prim.Native.Nat.{ℕ, _+_, _≤_, _<_}
 use lib.ListN.{length}
 use Rattle.logic.specs.declared.types.State.{State}
 use Rattle.logic.specs.States.{Trace, stateAt}
@@ -37,3 +38,25 @@ placed refusal.NoSuchPoint = 0
 abbrev pub FirstUnlawful : List State → Refusal → Type 0
 FirstUnlawful xs why =
     (1 ≤ placed why) × (placed why ≤ length xs) × Unlawful (stateAt xs) why × ((j : ℕ) → 1 ≤ j → j < placed why → Fit (stateAt xs) j)
+
+-- the trace of a record with one state more
+abbrev pub joined : List State → State → Trace
+joined xs x = stateAt (xs ++ x ∷ [])
+
+-- a state may follow those of a record
+abbrev pub MayFollow : List State → State → Type 0
+MayFollow xs x = (length xs < 256) × Fit (joined xs x) (length xs + 1)
+
+-- why it may not: the first reason that fits
+abbrev pub MayNotFollow : List State → State → Refusal → Type 0
+MayNotFollow xs x refusal.TooManyStates = 256 ≤ length xs
+MayNotFollow xs x (refusal.NominalTaken i) = (length xs < 256) × (i ≡ length xs + 1) × NominalTaken (joined xs x) i
+MayNotFollow xs x (refusal.ReferenceUnfit i) =
+    (length xs < 256) × (i ≡ length xs + 1) × (NominalTaken (joined xs x) i → ⊥) × ReferenceUnfit (joined xs x) i
+MayNotFollow xs x refusal.ForeignRecord = ⊥
+MayNotFollow xs x refusal.RecordFull = ⊥
+MayNotFollow xs x refusal.MemoryTooShort = ⊥
+MayNotFollow xs x refusal.NoSuchName = ⊥
+MayNotFollow xs x refusal.LooseFormula = ⊥
+MayNotFollow xs x refusal.NoSuchState = ⊥
+MayNotFollow xs x refusal.NoSuchPoint = ⊥

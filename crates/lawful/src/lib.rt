@@ -8,8 +8,8 @@ ghost use lib.ListN.{length, getD};
 ghost use Rattle.std.specs.Orderings.{Decides};
 ghost use Rattle.std.specs.Options.{Cases as BySome};
 ghost use Rattle.logic.specs.States.{stateAt};
-ghost use Rattle.logic.specs.Lawful.{Unfit, LawfulRecord};
-ghost use Rattle.lawful.specs.Unlawful.{FirstUnlawful};
+ghost use Rattle.logic.specs.Lawful.{Unfit, NominalTaken, ReferenceUnfit, LawfulRecord};
+ghost use Rattle.lawful.specs.Unlawful.{FirstUnlawful, joined, MayFollow, MayNotFollow};
 use logic::types::Reference;
 use logic::types::State;
 use records::readable::Readable;
@@ -55,6 +55,47 @@ pub fn first_unlawful<R: Readable>(log: &R) -> Option<Refusal>
             return Some(Refusal::ReferenceUnfit(p + 1));
         }
         seen[nominal] = true;
+    }
+    None
+}
+
+// Whether the nominal of a state stands on a state of the record.
+fn is_taken<R: Readable>(log: &R, state: State) -> bool
+    ensures { λ r. ⌜ Decides r (NominalTaken (joined (states (now (log .entry))) state) (length (states (now (log .entry))) + 1)) ⌝ }
+{
+    if state.nominal == 0 {
+        return false;
+    }
+    for p in 0..log.count() {
+        if log.state(p + 1).nominal == state.nominal {
+            return true;
+        }
+    }
+    false
+}
+
+// Whether a state would have an unfit reference as the one after the n states of the record.
+fn is_misled<R: Readable>(log: &R, state: State, i: usize) -> bool
+    requires { ⌜ i ≡ length (states (now log)) + 1 ⌝ }
+    ensures { λ r. ⌜ Decides r (ReferenceUnfit (joined (states (now (log .entry))) state) i) ⌝ }
+{
+    let _ = log;
+    has_unfit(state, i)
+}
+
+// Why a state may not follow those of a record, if there is a reason; a record of 256 states is not continued.
+pub fn next_unlawful<R: Readable>(log: &R, state: State) -> Option<Refusal>
+    ensures { λ r. ⌜ BySome r (MayFollow (states (now (log .entry))) state) (λ u. MayNotFollow (states (now (log .entry))) state u) ⌝ }
+{
+    let n = log.count();
+    if n >= 256 {
+        return Some(Refusal::TooManyStates);
+    }
+    if is_taken(log, state) {
+        return Some(Refusal::NominalTaken(n + 1));
+    }
+    if is_misled(log, state, n + 1) {
+        return Some(Refusal::ReferenceUnfit(n + 1));
     }
     None
 }
