@@ -19,15 +19,19 @@ not-before-itself : (x : Notice) → Before x x → ⊥
 not-before-itself x h = ⊎-elim (λ a. omega arith) (λ p. ⊎-elim (λ a. omega arith) (λ q. q .2 (q .1)) (p .1)) h
 
 pub happens-once : HappensOnce
-happens-once n labels rules o x c l =
-    ( (λ h. let p = happens-told labels c n rules x o h in
-            (p .0, p .1, λ j e.
-                ⊎-elim (λ (a : j ≡ p .0). a)
-                (λ d. absurd (⊎-elim
-                    (λ (a : j < p .0). not-before-itself x (notices-in-order labels rules c j (p .0) x x a e (p .1)))
-                    (λ (a : p .0 < j). not-before-itself x (notices-in-order labels rules c (p .0) j x x a (p .1) e)) d))
-                (cases-order j (p .0))))
-    , (λ no k e. no (told-happens labels c n rules x k l e)) )
+happens-once n labels rules o x c l = (
+  (λ h. let p = happens-told labels c n rules x o h in (
+    p .0,
+    p .1,
+    λ j e.
+        ⊎-elim (λ (a : j ≡ p .0). a)
+        (λ d. absurd (⊎-elim
+        (λ (a : j < p .0). not-before-itself x (notices-in-order labels rules c j (p .0) x x a e (p .1)))
+        (λ (a : p .0 < j). not-before-itself x (notices-in-order labels rules c (p .0) j x x a (p .1) e)) d))
+        (cases-order j (p .0)),
+  )),
+  (λ no k e. no (told-happens labels c n rules x k l e)),
+)
 
 one-date : (e : Event) (z : Label) (s c d : ℕ) → DatedAt e z s c → DatedAt e z s d → c ≡ d
 one-date Raising z s c d h k = cc

@@ -54,8 +54,8 @@ module _ (labels : Labels) (c : ℕ) where
       let later = fromState labels c k r m (suc s) in
       sorted-++ Before (ofState labels c k r s) later (of-state-sorted k r s) (from-state-sorted k r m (suc s))
       (all-weaker (OfState labels c k r s) (λ x. All (Before x) later)
-          (λ x h. all-weaker (FromState labels c k r m (suc s)) (Before x) (λ y g. inr (h .0 ∙ sym (g .0), inl (omega arith))) later (from-state-all labels c k r m (suc s)))
-          (ofState labels c k r s) (of-state-all labels c k r s))
+      (λ x h. all-weaker (FromState labels c k r m (suc s)) (Before x) (λ y g. inr (h .0 ∙ sym (g .0), inl (omega arith))) later (from-state-all labels c k r m (suc s)))
+      (ofState labels c k r s) (of-state-all labels c k r s))
 
   from-rule-sorted : (k : ℕ) (rs : List Rule) → Sorted Before (fromRule labels c k rs)
   from-rule-sorted k [] = tt
@@ -63,8 +63,8 @@ module _ (labels : Labels) (c : ℕ) where
       let later = fromRule labels c (suc k) rs in
       sorted-++ Before (fromState labels c k r c 1) later (from-state-sorted k r c 1) (from-rule-sorted (suc k) rs)
       (all-weaker (FromState labels c k r c 1) (λ x. All (Before x) later)
-          (λ x h. all-weaker (FromRule labels c (suc k) rs) (Before x) (λ y g. inl (omega arith)) later (from-rule-all labels c (suc k) rs))
-          (fromState labels c k r c 1) (from-state-all labels c k r c 1))
+      (λ x h. all-weaker (FromRule labels c (suc k) rs) (Before x) (λ y g. inl (omega arith)) later (from-rule-all labels c (suc k) rs))
+      (fromState labels c k r c 1) (from-state-all labels c k r c 1))
 
 pub notices-in-order : NoticesInOrder
 notices-in-order labels rules c j k x y l e f = sorted-nth Before (notices labels rules c) j k x y (from-rule-sorted labels c 0 rules) l e f

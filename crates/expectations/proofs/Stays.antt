@@ -11,7 +11,7 @@ use Rattle.logic.specs.declared.types.Rule.{Rule}
 use Rattle.expectations.specs.declared.types.Label.{Label}
 use Rattle.expectations.specs.declared.types.Label.the-variants.{Unknown, TrueFrom, FalseFrom}
 use Rattle.expectations.specs.Expectations.{Labels, verdict, raises, trueFrom, falseFrom, judged, standing, ofState, fromState, fromRule}
-use Rattle.expectations.specs.Laws.{Grown, Grows, StandingsStay, NoticesStay}
+use Rattle.expectations.specs.Laws.{Grown, Grows, VerdictsStay, StandingsStay, NoticesStay}
 
 -- what takes a verdict dated after n for unknown does not change when a label grows
 grown-same : {X : Type 0} (F : Label → X) (n : ℕ) (old new : Label) → Grown n old new → F (TrueFrom (suc n)) ≡ F Unknown → F (FalseFrom (suc n)) ≡ F Unknown → F new ≡ F old
@@ -28,16 +28,16 @@ module _ (n : ℕ) (old new : Label) (g : Grown n old new) (c : ℕ) (h : c ≤ 
   apart : eqb (suc n) c ≡ false
   apart = ne-eqb (suc n) c (λ e. omega arith)
 
-  pub verdict-same : verdict new c ≡ verdict old c
+  verdict-same : verdict new c ≡ verdict old c
   verdict-same = grown-same (λ z. verdict z c) n old new g (rw later) (rw later)
 
-  pub judged-same : judged new c ≡ judged old c
+  judged-same : judged new c ≡ judged old c
   judged-same = grown-same (λ z. judged z c) n old new g (rw later) (rw later)
 
-  pub true-from-same : trueFrom new c ≡ trueFrom old c
+  true-from-same : trueFrom new c ≡ trueFrom old c
   true-from-same = grown-same (λ z. trueFrom z c) n old new g apart refl
 
-  pub false-from-same : falseFrom new c ≡ falseFrom old c
+  false-from-same : falseFrom new c ≡ falseFrom old c
   false-from-same = grown-same (λ z. falseFrom z c) n old new g refl apart
 
 module _ (n : ℕ) (old new : Labels) (g : Grows n old new) where
@@ -65,6 +65,9 @@ module _ (n : ℕ) (old new : Labels) (g : Grows n old new) where
   from-rule-same : (c k : ℕ) (rs : List Rule) → c ≤ n → fromRule new c k rs ≡ fromRule old c k rs
   from-rule-same c k [] h = refl
   from-rule-same c k (r ∷ rs) h = ap₂ _++_ (from-state-same c k r c 1 (omega arith) (omega arith) h) (from-rule-same c (suc k) rs h)
+
+pub verdicts-stay : VerdictsStay
+verdicts-stay n old new g f i c a b h = verdict-same n (old f i) (new f i) (g f i a b) c h
 
 pub standings-stay : StandingsStay
 standings-stay n old new g r s c a b h = standing-same n old new g r s c a b h

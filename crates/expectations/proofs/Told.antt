@@ -1,5 +1,5 @@
 -- The notices of a point tell what happens there, and all of it.
-use mathlib.Core.Path.{_≡_, refl, sym, ap, subst}
+use mathlib.Core.Path.{_≡_, refl, subst}
 use mathlib.Core.List.{List, [], _∷_, _++_}
 use mathlib.Core.Logic.{⊎-elim}
 use mathlib.Core.Bool.{Bool, true, false, _&&_}
@@ -14,30 +14,14 @@ use Rattle.std.proofs.shelf.Elements.{all-append, all-weaker}
 use Rattle.std.proofs.shelf.Tests.{false≢true, eq-eqb, eqb-true, and-parts, and-from, cases-eq}
 use Rattle.logic.specs.declared.types.Rule.{Rule}
 use Rattle.expectations.specs.declared.types.Label.{Label}
-use Rattle.expectations.specs.declared.types.Label.the-variants.{Unknown, TrueFrom, FalseFrom}
+use Rattle.expectations.specs.declared.types.Label.the-variants.{TrueFrom, FalseFrom}
 use Rattle.expectations.specs.declared.types.Event.{Event}
 use Rattle.expectations.specs.declared.types.Event.the-variants.{Raising, Fulfilling, Violating}
 use Rattle.expectations.specs.declared.types.Notice.{Notice}
 use Rattle.expectations.specs.Expectations.{Labels, noRule, trueFrom, falseFrom, raises, onlyIf, notice, ofState, fromState, fromRule, notices}
 use Rattle.expectations.specs.Laws.{NotBefore, InOrder, Raises, DatedAt, Happens}
+use Rattle.expectations.proofs.Labels.{true-is, false-is, is-true, is-false}
 use Rattle.expectations.proofs.Places.{all-nth, Stands, stands-left, stands-right}
-
--- ── Tests on labels ──
-true-is : (z : Label) (c : ℕ) → trueFrom z c ≡ true → z ≡ TrueFrom c
-true-is Unknown c h = absurd (false≢true h)
-true-is (TrueFrom d) c h = ap TrueFrom (eqb-true d c h)
-true-is (FalseFrom d) c h = absurd (false≢true h)
-
-false-is : (z : Label) (c : ℕ) → falseFrom z c ≡ true → z ≡ FalseFrom c
-false-is Unknown c h = absurd (false≢true h)
-false-is (TrueFrom d) c h = absurd (false≢true h)
-false-is (FalseFrom d) c h = ap FalseFrom (eqb-true d c h)
-
-is-true : (z : Label) (c : ℕ) → z ≡ TrueFrom c → trueFrom z c ≡ true
-is-true z c e = rw e (eq-eqb c c refl)
-
-is-false : (z : Label) (c : ℕ) → z ≡ FalseFrom c → falseFrom z c ≡ true
-is-false z c e = rw e (eq-eqb c c refl)
 
 only-all : (P : Notice → Type 0) (b : Bool) (x : Notice) → (b ≡ true → P x) → All P (onlyIf b x)
 only-all P true x h = (h refl, tt)
@@ -69,8 +53,8 @@ module _ (labels : Labels) (c : ℕ) where
       all-append P (onlyIf _ (notice k s Raising)) _
       (only-all P _ (notice k s Raising) (λ h. let p = up _ h in (refl, refl, (true-is _ _ (p .0), eqb-true s c (p .1)))))
       (all-append P (onlyIf _ (notice k s Fulfilling)) _
-          (only-all P _ (notice k s Fulfilling) (λ h. let p = up _ h in (refl, refl, (true-is _ _ (p .0), true-is _ _ (p .1)))))
-          (only-all P _ (notice k s Violating) (λ h. let p = up _ h in (refl, refl, (true-is _ _ (p .0), false-is _ _ (p .1))))))
+      (only-all P _ (notice k s Fulfilling) (λ h. let p = up _ h in (refl, refl, (true-is _ _ (p .0), true-is _ _ (p .1)))))
+      (only-all P _ (notice k s Violating) (λ h. let p = up _ h in (refl, refl, (true-is _ _ (p .0), false-is _ _ (p .1))))))
 
   pub from-state-all : (k : ℕ) (r : Rule) (m s : ℕ) → All (FromState k r m s) (fromState labels c k r m s)
   from-state-all k r zero s = tt
@@ -105,7 +89,7 @@ module _ (labels : Labels) (c : ℕ) where
       let x = notice k s Violating in
       stands-right (onlyIf (raises labels r s && eqb s c) (notice k s Raising)) _ x
       (stands-right (onlyIf (raises labels r s && trueFrom (labels (r .content) s) c) (notice k s Fulfilling)) _ x
-          (only-stands _ x (and-from _ _ (is-true _ _ (h .0)) (is-false _ _ (h .1)))))
+      (only-stands _ x (and-from _ _ (is-true _ _ (h .0)) (is-false _ _ (h .1)))))
 
   from-state-stands : (k : ℕ) (r : Rule) (m s t : ℕ) (x : Notice) → s ≤ t → t < s + m → Stands (ofState labels c k r t) x → Stands (fromState labels c k r m s) x
   from-state-stands k r zero s t x a b h = absurd (omega arith)

@@ -89,22 +89,24 @@ isViolated (Violated d) = true
 
 -- the rule's expectations of states 1 to n, counted by their standings at c
 abbrev pub tallied : Labels → Rule → (c n : ℕ) → Tally
-tallied labels r c n = record
-    { raised = count (λ s. isRaised (standing labels r s c)) n
-    ; pending = count (λ s. isPending (standing labels r s c)) n
-    ; fulfilled = count (λ s. isFulfilled (standing labels r s c)) n
-    ; violated = count (λ s. isViolated (standing labels r s c)) n }
+tallied labels r c n = record {
+  raised = count (λ s. isRaised (standing labels r s c)) n;
+  pending = count (λ s. isPending (standing labels r s c)) n;
+  fulfilled = count (λ s. isFulfilled (standing labels r s c)) n;
+  violated = count (λ s. isViolated (standing labels r s c)) n;
+}
 
 abbrev pub noTally : Tally
 noTally = record { raised = 0; pending = 0; fulfilled = 0; violated = 0 }
 
 -- a tally with one standing more
 abbrev pub added : Standing → Tally → Tally
-added x t = record
-    { raised = t .raised + cond (isRaised x) 1 0
-    ; pending = t .pending + cond (isPending x) 1 0
-    ; fulfilled = t .fulfilled + cond (isFulfilled x) 1 0
-    ; violated = t .violated + cond (isViolated x) 1 0 }
+added x t = record {
+  raised = t .raised + cond (isRaised x) 1 0;
+  pending = t .pending + cond (isPending x) 1 0;
+  fulfilled = t .fulfilled + cond (isFulfilled x) 1 0;
+  violated = t .violated + cond (isViolated x) 1 0;
+}
 
 -- ── Notices ──
 

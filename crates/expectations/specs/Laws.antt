@@ -9,10 +9,15 @@ use Rattle.std.specs.declared.option.Option.the-variants.{Some}
 use Rattle.logic.specs.declared.types.Rule.{Rule}
 use Rattle.expectations.specs.declared.types.Label.{Label}
 use Rattle.expectations.specs.declared.types.Label.the-variants.{Unknown, TrueFrom, FalseFrom}
+use Rattle.expectations.specs.declared.types.Verdict.{Verdict}
+use Rattle.expectations.specs.declared.types.Verdict.the-variants as is
+use Rattle.expectations.specs.declared.types.Standing.{Standing}
+use Rattle.expectations.specs.declared.types.Standing.the-variants.{NotRaised, Pending, Fulfilled, Violated}
 use Rattle.expectations.specs.declared.types.Event.{Event}
 use Rattle.expectations.specs.declared.types.Event.the-variants.{Raising, Fulfilling, Violating}
 use Rattle.expectations.specs.declared.types.Notice.{Notice}
-use Rattle.expectations.specs.Expectations.{Labels, noRule, standing, tallied, notices}
+use Rattle.expectations.specs.Expectations.{Labels, verdict, noRule, standing, tallied, notices}
+use Rattle.expectations.specs.Words.{ofVerdict, ofStanding, ofEvent}
 
 -- ── What labels are like ──
 
@@ -39,6 +44,14 @@ Grows n old new = (f i : ℕ) → 1 ≤ i → i ≤ n → Grown n (old f i) (new
 -- a rule raises an expectation at state s
 abbrev pub Raises : Labels → Rule → (s : ℕ) → Type 0
 Raises labels r s = labels (r .condition) s ≡ TrueFrom s
+
+-- what it means that an expectation of state s stands so at c
+abbrev pub StandsAs : Labels → Rule → (s c : ℕ) → Standing → Type 0
+StandsAs labels r s c NotRaised = Raises labels r s → ⊥
+StandsAs labels r s c Pending =
+    Raises labels r s × ((d : ℕ) → d ≤ c → (labels (r .content) s ≡ TrueFrom d) ⊎ (labels (r .content) s ≡ FalseFrom d) → ⊥)
+StandsAs labels r s c (Fulfilled d) = Raises labels r s × (labels (r .content) s ≡ TrueFrom d) × (d ≤ c)
+StandsAs labels r s c (Violated d) = Raises labels r s × (labels (r .content) s ≡ FalseFrom d) × (d ≤ c)
 
 -- an event of an expectation that was raised at s has the date c, by the label of its content
 abbrev pub DatedAt : Event → Label → (s c : ℕ) → Type 0
@@ -68,6 +81,17 @@ Before x y =
 
 -- ── The laws ──
 
+-- A standing is exactly what is so.
+abbrev pub StandingsMean : Type 0
+StandingsMean = (labels : Labels) (r : Rule) (s c : ℕ) (x : Standing) →
+    (standing labels r s c ≡ x → StandsAs labels r s c x) × (StandsAs labels r s c x → standing labels r s c ≡ x)
+
+-- What is decided at a point is decided so at every later one.
+abbrev pub DecisionsLast : Type 0
+DecisionsLast = (c e : ℕ) → c ≤ e →
+    ((z : Label) → (verdict z c ≡ is.Unknown → ⊥) → verdict z e ≡ verdict z c) ×
+    ((labels : Labels) (r : Rule) (s : ℕ) → (standing labels r s c ≡ Pending → ⊥) → standing labels r s e ≡ standing labels r s c)
+
 -- Every expectation raised is pending, fulfilled or violated, and only one of them.
 abbrev pub TalliesSum : Type 0
 TalliesSum = (labels : Labels) (r : Rule) (c n : ℕ) →
@@ -88,6 +112,11 @@ abbrev pub NoticesInOrder : Type 0
 NoticesInOrder = (labels : Labels) (rules : List Rule) (c j k : ℕ) (x y : Notice) → j < k →
     nth (notices labels rules c) j ≡ Some x → nth (notices labels rules c) k ≡ Some y → Before x y
 
+-- When a state is added, the labels read the same at the points before it.
+abbrev pub VerdictsStay : Type 0
+VerdictsStay = (n : ℕ) (old new : Labels) → Grows n old new → (f i c : ℕ) → 1 ≤ i → i ≤ n → c ≤ n →
+    verdict (new f i) c ≡ verdict (old f i) c
+
 -- When a state is added, the standings at the points before it are the same.
 abbrev pub StandingsStay : Type 0
 StandingsStay = (n : ℕ) (old new : Labels) → Grows n old new → (r : Rule) (s c : ℕ) → 1 ≤ s → s ≤ c → c ≤ n →
@@ -97,3 +126,10 @@ StandingsStay = (n : ℕ) (old new : Labels) → Grows n old new → (r : Rule) 
 abbrev pub NoticesStay : Type 0
 NoticesStay = (n : ℕ) (old new : Labels) → Grows n old new → (rules : List Rule) (c : ℕ) → c ≤ n →
     notices new rules c ≡ notices old rules c
+
+-- Two answers that tell the same are the same.
+abbrev pub AnswersDiffer : Type 0
+AnswersDiffer =
+    ((x y : Verdict) → ofVerdict x ≡ ofVerdict y → x ≡ y) ×
+    ((x y : Standing) → ofStanding x ≡ ofStanding y → x ≡ y) ×
+    ((x y : Event) → ofEvent x ≡ ofEvent y → x ≡ y)

@@ -1,4 +1,4 @@
-// Labels as a truncation point reads them, and standings counted.
+// Labels as a truncation point reads them.
 ghost use mathlib.Core.Path.{_≡_};
 ghost use Rattle.expectations.specs.Expectations.{verdict, trueFrom, falseFrom, judged};
 use crate::types::Label;
@@ -9,9 +9,9 @@ pub fn verdict_of(label: Label, point: usize) -> Verdict
     ensures { λ r. ⌜ r ≡ verdict label point ⌝ }
 {
     match label {
-        Label::Unknown => Verdict::Unknown,
-        Label::TrueFrom(date) => if date <= point { Verdict::True } else { Verdict::Unknown },
-        Label::FalseFrom(date) => if date <= point { Verdict::False } else { Verdict::Unknown },
+        Label::TrueFrom(date) if date <= point => Verdict::True,
+        Label::FalseFrom(date) if date <= point => Verdict::False,
+        _ => Verdict::Unknown,
     }
 }
 
@@ -39,8 +39,8 @@ pub fn judge(label: Label, point: usize) -> Standing
     ensures { λ r. ⌜ r ≡ judged label point ⌝ }
 {
     match label {
-        Label::Unknown => Standing::Pending,
-        Label::TrueFrom(date) => if date <= point { Standing::Fulfilled(date) } else { Standing::Pending },
-        Label::FalseFrom(date) => if date <= point { Standing::Violated(date) } else { Standing::Pending },
+        Label::TrueFrom(date) if date <= point => Standing::Fulfilled(date),
+        Label::FalseFrom(date) if date <= point => Standing::Violated(date),
+        _ => Standing::Pending,
     }
 }
