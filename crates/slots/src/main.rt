@@ -3,6 +3,8 @@
 mod report;
 mod rule;
 
+ghost use mathlib.Core.Path.{_≡_};
+ghost use Prim.Native.Nat.{_<_, _^_};
 use crate::report::print_report;
 use crate::rule::FREE;
 use crate::rule::TAKE;
@@ -17,10 +19,13 @@ use records::rows::Rows;
 use records::rows::RowsReadable;
 use std::io;
 
-// The state at which one signal is on.
-fn showing(signal: u8) -> State {
+// The state at which this signal alone is on.
+fn showing(signal: u8) -> State
+    requires { ⌜ signal < 32 ⌝ }
+    ensures { λ r. ⌜ r .signals ≡ 2 ^ signal ⌝ }
+{
     State {
-        signals: if signal == TAKE { 1 } else { 2 },
+        signals: 1 << signal,
         nominal: 0,
         first: NO_REFERENCE,
         second: NO_REFERENCE,

@@ -1,12 +1,11 @@
 // What the labels tell of the expectations, in lines of text.
 ghost use mathlib.Core.Path.{_≡_};
-ghost use Prim.Native.Nat.{_+_, _-_, _*_, _<_, _≤_};
-ghost use lib.ListN.{length, getD};
+ghost use Prim.Native.Nat.{_<_, _≤_};
 ghost use mathlib.Core.Logic.{_⊎_};
 ghost use Rattle.std.specs.Orderings.{Decides};
 ghost use Rattle.labels.specs.Readings.{Same, opened};
 ghost use Rattle.labels.specs.Dated.{dated};
-ghost use Rattle.labels.specs.declared.dated.Dated.{Dated};
+ghost use Rattle.slots.specs.Slots.{LabelAt};
 use labels::LabelKind;
 use labels::dated::Dated;
 use labels::dated::DatedKind;
@@ -29,7 +28,7 @@ impl<'a> Labels<'a> {
     // The label of formula f at state i, and unknown if it has no cell.
     fn label(self, f: usize, i: usize) -> Dated
         ensures none { λ r. ⌜ ((i ≡ 0) ⊎ (self .entry .n < i) → Same 256 (dated (r .value)) opened) ⌝ }
-        ensures cell { λ r. ⌜ (f < 64 → self .entry .n ≤ 256 → 0 < i → i ≤ self .entry .n → f * self .entry .n + (i - 1) < length (now (self .entry .cells)) → (d : Dated) → r ≡ getD (now (self .entry .cells)) (f * self .entry .n + (i - 1)) d) ⌝ }
+        ensures cell { λ r. ⌜ LabelAt (self .entry .n) (now (self .entry .cells)) f i r ⌝ }
     {
         if f >= 64 || self.n > 256 || i == 0 || i > self.n {
             return Dated::unknown();
@@ -44,7 +43,9 @@ impl<'a> Labels<'a> {
 
     // The expectation of a rule at a state, raised or not.
     fn expectation(self, rule: Rule, from: usize) -> Expectation
-        ensures { λ r. ⌜ r .from ≡ from ⌝ }
+        ensures from { λ r. ⌜ r .from ≡ from ⌝ }
+        ensures condition { λ r. ⌜ LabelAt (self .entry .n) (now (self .entry .cells)) (rule .condition) from (r .condition) ⌝ }
+        ensures content { λ r. ⌜ LabelAt (self .entry .n) (now (self .entry .cells)) (rule .content) from (r .content) ⌝ }
     {
         Expectation {
             from,

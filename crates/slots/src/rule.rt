@@ -1,4 +1,5 @@
 // The rule of the slot: when it is taken, it is expected to be freed before it is taken again.
+ghost use Rattle.slots.specs.Slots.{SlotTable};
 use logic::types::Formula;
 use logic::types::Rule;
 use table::building::*;
@@ -12,7 +13,9 @@ pub const TAKE: u8 = 0;
 pub const FREE: u8 = 1;
 
 // The table with this rule alone: `signal TAKE`, and then `next ((not TAKE) until FREE)`.
-pub fn slot_table() -> Result<Table, Defect> {
+pub fn slot_table() -> Result<Table, Defect>
+    ensures { λ r. ⌜ SlotTable r ⌝ }
+{
     let mut draft = Draft::new();
     let take = draft.add_formula(Formula::Signal(TAKE))?;
     let free = draft.add_formula(Formula::Signal(FREE))?;
