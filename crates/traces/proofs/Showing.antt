@@ -12,8 +12,8 @@ use Rattle.fields.specs.Lines.{Small}
 use Rattle.fields.specs.Fields.{Solid}
 use Rattle.fields.proofs.Cuts.{solid-decimal}
 use Rattle.fields.proofs.Shown.{shown, Led, Broken, broken, shown-unique}
-use Rattle.traces.specs.Traces.{traceLine, Formed}
-use Rattle.traces.specs.Shown.{NoTraceLine}
+use Rattle.fields.specs.Kinds.{ShowsNone}
+use Rattle.traces.specs.Traces.{traceKind, traceLine, Formed}
 
 abbrev pub keys : List (List ℕ)
 keys = codes "s=" ∷ codes " signals=" ∷ codes " mark=" ∷ codes " ka=" ∷ codes " ta=" ∷ codes " kb=" ∷ codes " tb=" ∷ []
@@ -32,8 +32,8 @@ solids i q f =
     (solid-decimal _ (f .firstTarget), (solid-decimal _ (f .secondKind), (solid-decimal _ (f .secondTarget), tt)))))))
 
 -- a line that breaks off, whatever numbers it is held against, is no trace line
-pub breaks : (line : List ℕ) → ((i : ℕ) (q : State) → Formed i q → Broken line 0 keys (texts i q)) → NoTraceLine line
-breaks line b i q f e = broken (b i q f) keys-led (solids i q f) e
+pub breaks : (line : List ℕ) → ((i : ℕ) (q : State) → Formed i q → Broken line 0 keys (texts i q)) → ShowsNone (traceKind 0) line
+breaks line b v f e = broken (b (v .0) (v .1) f) keys-led (solids (v .0) (v .1) f) e
 
 same : (m n : ℕ) → Small m → Small n → decimal m ≡ decimal n → m ≡ n
 same m n h k e = same-from-decimal m n (omega arith) (omega arith) e

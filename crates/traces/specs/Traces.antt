@@ -2,14 +2,13 @@
 use Prim.Native.Nat.{ℕ, _+_, _≤_}
 use mathlib.Core.List.{List, []}
 use mathlib.Core.Path.{_≡_}
-use lib.ListN.{length}
 use lib.Chars.{codes}
 use Rattle.std.specs.declared.result.Result.{Result}
 use Rattle.std.specs.declared.result.Result.the-variants.{Ok, Err}
 use Rattle.logic.specs.declared.types.State.{State}
 use Rattle.faults.specs.declared.line.LineFault.{LineFault}
 use Rattle.fields.specs.Lines.{Small, field}
-use Rattle.fields.specs.Kinds.{Kind, Shows, Refuses}
+use Rattle.fields.specs.Kinds.{Kind, Takes, Refuses}
 use Rattle.traces.specs.declared.states.StateLine.{StateLine}
 
 -- the line of state number i
@@ -51,14 +50,9 @@ traceKind count = record {
     Formed = λ v. Formed (v .0) (v .1);
     Ranged = λ v. (v .0 ≡ count + 1) × Allowed (v .0) (v .1) }
 
--- The text's first line is that of a state, the next one after a count of states.
-pub record Accepts (text : List ℕ) (count : ℕ) (q : State) (rest : List ℕ) : Type 0 where
-  pub shows : Shows (traceKind count) text (count + 1, q) rest
-  pub allowed : Allowed (count + 1) q
-
 -- What a text is read as after a count of states. The place of a refusal is line 1.
 abbrev pub Reads : List ℕ → (count : ℕ) → Result StateLine LineFault → Type 0
-Reads text count (Ok a) = (rest : List ℕ) × Accepts text count (a .state) rest × (a .used + length rest ≡ length text)
+Reads text count (Ok a) = Takes (traceKind count) text (count + 1, a .state) (a .used)
 Reads text count (Err e) = Refuses (traceKind count) text 1 e
 
 -- A text is read in one way only.

@@ -1,7 +1,8 @@
 ghost use mathlib.Core.Path.{_≡_};
 ghost use Rattle.std.specs.Options.{Cases as BySome};
-ghost use Rattle.traces.specs.Traces.{Formed, traceLine};
-ghost use Rattle.traces.specs.Shown.{stateOf, NoTraceLine};
+ghost use Rattle.fields.specs.Kinds.{ShowsNone};
+ghost use Rattle.traces.specs.Traces.{Formed, traceKind, traceLine};
+ghost use Rattle.traces.specs.Shown.{stateOf};
 use fields::values::number_under;
 use keys::Key;
 use keys::TraceKey;
@@ -20,7 +21,7 @@ pub(crate) struct Numbers {
 
 // The numbers that a trace line shows.
 pub(crate) fn numbers_of(line: &[u8]) -> Option<Numbers>
-    ensures { λ r. ⌜ BySome r (NoTraceLine (now (line .entry))) (λ v. Formed (v .state) (stateOf v) × (now (line .entry) ≡ traceLine (v .state) (stateOf v))) ⌝ }
+    ensures { λ r. ⌜ BySome r (ShowsNone (traceKind 0) (now (line .entry))) (λ v. Formed (v .state) (stateOf v) × (now (line .entry) ≡ traceLine (v .state) (stateOf v))) ⌝ }
 {
     let state = number_under(line, 0, Key::Trace(TraceKey::State))?;
     let signals = number_under(line, state.to, Key::Trace(TraceKey::Signals))?;
