@@ -2,7 +2,7 @@ ghost use mathlib.Core.Path.{_≡_};
 ghost use Rattle.std.specs.Options.{Cases as BySome};
 ghost use Rattle.std.specs.Results.{Cases};
 ghost use Rattle.fields.specs.Kinds.{Takes, TakesLine, Refuses, RefusesLine, ShowsNone};
-ghost use Rattle.rulelines.specs.Rules.{Formed, ruleLine, ruleKind, ruleOf};
+ghost use Rattle.rulelines.specs.Rules.{Formed, Ranged, ruleLine, ruleKind, ruleOf};
 use faults::line::LineFault;
 use fields::lines::first_line;
 use fields::values::number_under;
@@ -39,16 +39,26 @@ fn numbers_of(line: &[u8]) -> Option<Numbers>
     Some(Numbers { number: number.number, condition: condition.number, content: content.number })
 }
 
+// The rule that the numbers of a line give as number k, if they are in their ranges.
+fn rule_of(v: Numbers, k: usize) -> Option<Rule>
+    ensures { λ r. ⌜ BySome r (Ranged k (v .number) (ruleOf v) → ⊥) (λ u. Ranged k (v .number) (ruleOf v) × (u ≡ ruleOf v)) ⌝ }
+{
+    if v.number != k as u64 || v.condition > LAST_NUMBER || v.content > LAST_NUMBER {
+        return None;
+    }
+    Some(Rule { condition: v.condition as usize, content: v.content as usize })
+}
+
 fn judge(line: &[u8], place: usize, k: usize) -> Result<Rule, LineFault>
     ensures { λ r. ⌜ Cases r (λ u. TakesLine (ruleKind k) (now (line .entry)) (k, u)) (λ e. RefusesLine (ruleKind k) (now (line .entry)) place e) ⌝ }
 {
     let Some(v) = numbers_of(line) else {
         return Err(LineFault::Form(place));
     };
-    if v.number != k as u64 || v.condition > LAST_NUMBER || v.content > LAST_NUMBER {
-        return Err(LineFault::Range(place));
+    match rule_of(v, k) {
+        Some(rule) => Ok(rule),
+        None => Err(LineFault::Range(place)),
     }
-    Ok(Rule { condition: v.condition as usize, content: v.content as usize })
 }
 
 // The rule that the first line of a text shows as number k; `place` is the line's, for a refusal.
