@@ -1,0 +1,4 @@
+pub mod Says
+pub mod Steps
+pub mod Ranged
+pub mod Reading

@@ -1,0 +1,3 @@
+pub mod Dated
+pub mod Labels
+pub mod Laws

@@ -1,0 +1,3 @@
+// Labels of all states of a record at all formulas of a table.
+mod passes;
+mod rows;

@@ -1,0 +1,3 @@
+pub mod Growth
+pub mod Tabled
+pub mod Changed
