@@ -4,3 +4,4 @@ pub mod Cuts
 pub mod Named
 pub mod Shown
 pub mod Judged
+pub mod Follow

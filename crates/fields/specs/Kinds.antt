@@ -21,10 +21,14 @@ pub record Shows (K : Kind) (text : List ℕ) (v : K .Value) (rest : List ℕ) :
   pub line : FirstLine text (K .written v) rest
   pub formed : K .Formed v
 
--- The first line is taken: it shows a value in range, and `used` bytes of the text are the line and its end.
-pub record Takes (K : Kind) (text : List ℕ) (v : K .Value) (used : ℕ) : Type 0 where
-  pub shows : Shows K text v (drop used text)
+-- the text's first line shows a value in range, and `rest` follows it
+pub record Fits (K : Kind) (text : List ℕ) (v : K .Value) (rest : List ℕ) : Type 0 where
+  pub shows : Shows K text v rest
   pub ranged : K .Ranged v
+
+-- The first line is taken, which with its end are `used` bytes of the text.
+pub record Takes (K : Kind) (text : List ℕ) (v : K .Value) (used : ℕ) : Type 0 where
+  pub fits : Fits K text v (drop used text)
   pub within : used ≤ length text
 
 -- a line that shows no value

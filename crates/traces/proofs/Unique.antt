@@ -31,7 +31,7 @@ one-reading text count (Ok a) (Ok b) p q =
     let d = judged.one-taking (traceKind count) (single count) text (count + 1, a .state) (count + 1, b .state) (a .used) (b .used) p q in
     ap Ok (same-line a b (ap (λ z. z .1) (d .0)) (d .1))
 one-reading text count (Ok a) (Err e) p x =
-    absurd (judged.fit-or-refused (traceKind count) (single count) text (count + 1, a .state) (drop (a .used) text) 1 e (p .shows) (p .ranged) x)
+    absurd (judged.fit-or-refused (traceKind count) (single count) text (count + 1, a .state) (drop (a .used) text) 1 e (p .fits .shows) (p .fits .ranged) x)
 one-reading text count (Err e) (Ok b) x q =
-    absurd (judged.fit-or-refused (traceKind count) (single count) text (count + 1, b .state) (drop (b .used) text) 1 e (q .shows) (q .ranged) x)
+    absurd (judged.fit-or-refused (traceKind count) (single count) text (count + 1, b .state) (drop (b .used) text) 1 e (q .fits .shows) (q .fits .ranged) x)
 one-reading text count (Err e) (Err f) x y = ap Err (judged.one-refusal (traceKind count) (single count) text 1 e f x y)
