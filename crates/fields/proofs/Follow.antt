@@ -1,9 +1,9 @@
-use Prim.Native.Nat.{ℕ, _+_, _<_}
+use Prim.Native.Nat.{ℕ, _+_, _≤_, _<_}
 use mathlib.Core.List.{List, [], _∷_, _++_}
 use mathlib.Core.Path.{_≡_, refl, sym, _∙_, ap, subst}
 use mathlib.Core.Logic.{_⊎_, inl, inr, ⊎-elim}
 use native.Mathlib.Omega.{arith}
-use lib.ListN.{length}
+use lib.ListN.{length, take}
 use Rattle.fields.specs.Runs.{Run}
 
 module _ {A : Type 0} (Line : ℕ → A → List ℕ → List ℕ → Type 0) where
@@ -49,3 +49,13 @@ module _ {A : Type 0} (Line : ℕ → A → List ℕ → List ℕ → Type 0) wh
       (λ (h : Shorter (k + 1) xs ys r ⊎ Shorter (k + 1) ys xs s).
         inr (⊎-elim (λ (w : Shorter (k + 1) xs ys r). inl (shorter-by k x y xs ys r w)) (λ (w : Shorter (k + 1) ys xs s). inr (shorter-by k y x ys xs s w)) h))
       (compared one (k + 1) xs ys u r s p (subst (λ z. Run Line (k + 1) ys z s) (sym (d .1)) q))
+
+  -- a run that is no longer is the beginning of the other
+  pub beginning : Single → (k : ℕ) (xs ys : List A) (text r s : List ℕ) → Run Line k xs text r → Run Line k ys text s → length xs ≤ length ys → take (length xs) ys ≡ xs
+  beginning one k [] [] text r s p q h = refl
+  beginning one k [] (y ∷ ys) text r s p q h = refl
+  beginning one k (x ∷ xs) [] text r s p q h = absurd (omega arith)
+  beginning one k (x ∷ xs) (y ∷ ys) text r s (u, l, p) (v, m, q) h =
+      let d = one k x y text u v l m in
+      let t : take (length xs) ys ≡ xs = beginning one (k + 1) xs ys u r s p (subst (λ z. Run Line (k + 1) ys z s) (sym (d .1)) q) (omega arith) in
+      ap (λ z. z ∷ take (length xs) ys) (sym (d .0)) ∙ ap (λ z. x ∷ z) t
