@@ -33,8 +33,8 @@ solid-decimal n h =
 pub stop-at : (line : List ℕ) (from to : ℕ) → SolidFrom line from to → Stop (drop to line)
 stop-at line from to h =
     ⊎-elim (λ l. subst Stop (sym (drop-more line to 0 l)) (h .stop l))
-           (λ l. subst Stop (sym (drop-all to line l)) tt)
-           (cases-lt to (length line))
+    (λ l. subst Stop (sym (drop-all to line l)) tt)
+    (cases-lt to (length line))
 
 pub part-of : (line : List ℕ) (at to : ℕ) → SolidFrom line at to → Part line at (take (to - at) (drop at line)) at
 part-of line at to h =
@@ -46,9 +46,10 @@ part-of line at to h =
       within = omega (arith, h .high);
       parted = sym (take-append-drop (to - at) (drop at line)) ∙ ap (λ z. take (to - at) (drop at line) ++ z) (d ∙ ap (λ z. drop z line) (sym w));
       solid = all-from-getD (λ b. b ≡ 32 → ⊥) (take (to - at) (drop at line)) 0
-        (λ i k e. h .solid (at + i) (omega arith) (omega (arith, h .low))
+          (λ i k e. h .solid (at + i) (omega arith) (omega (arith, h .low))
           (sym (getD-drop at line i 0) ∙ sym (getD-take (to - at) (drop at line) i 0 (omega arith)) ∙ e));
-      stops = subst (λ z. Stop (drop z line)) (sym w) (stop-at line at to h) }
+      stops = subst (λ z. Stop (drop z line)) (sym w) (stop-at line at to h);
+    }
 
 pub first-of : (line : List ℕ) (at to : ℕ) → at < to → getD (take (to - at) (drop at line)) 0 0 ≡ getD line at 0
 first-of line at to h = getD-take (to - at) (drop at line) 0 0 (omega arith) ∙ getD-drop at line 0 0 ∙ ap (λ z. getD line z 0) (omega arith)

@@ -31,13 +31,14 @@ line-by-end text n h =
     let l : length (take n text) ≡ n = length-take-le n text (omega (arith, h .within)) in
     record {
       shows = sym (take-append-drop n text)
-        ∙ ap (λ z. take n text ++ z) (drop-more text n 0 (h .within) ∙ ap (λ z. z ∷ drop (n + 1) text) (h .here) ∙ ap (λ z. 10 ∷ drop (z + 1) text) (sym l));
+          ∙ ap (λ z. take n text ++ z) (drop-more text n 0 (h .within) ∙ ap (λ z. z ∷ drop (n + 1) text) (h .here) ∙ ap (λ z. 10 ∷ drop (z + 1) text) (sym l));
       plain = all-from-getD (λ b. b ≡ 10 → ⊥) (take n text) 0
-        (λ i k e. h .first i (omega arith) (sym (getD-take n text i 0 (omega arith)) ∙ e));
-      short = omega (arith, h .short) }
+          (λ i k e. h .first i (omega arith) (sym (getD-take n text i 0 (omega arith)) ∙ e));
+      short = omega (arith, h .short);
+    }
 
 pub torn-by-end : (text : List ℕ) → ((k : ℕ) → k ≤ lineLimit → k < length text → getD text k 0 ≡ 10 → ⊥) → Torn text
 torn-by-end text h line rest f =
     h (length line) (f .short)
-      (omega (arith, ap length (f .shows), length-append line (10 ∷ rest)))
-      (ap (λ z. getD z (length line) 0) (f .shows) ∙ getD-at line 10 rest 0 (length line) refl)
+    (omega (arith, ap length (f .shows), length-append line (10 ∷ rest)))
+    (ap (λ z. getD z (length line) 0) (f .shows) ∙ getD-at line 10 rest 0 (length line) refl)

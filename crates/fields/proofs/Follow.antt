@@ -47,7 +47,7 @@ module _ {A : Type 0} (Line : ℕ → A → List ℕ → List ℕ → Type 0) wh
       ⊎-elim
       (λ (h : (xs ≡ ys) × (r ≡ s)). inl (cc (d .0, h .0), h .1))
       (λ (h : Shorter (k + 1) xs ys r ⊎ Shorter (k + 1) ys xs s).
-        inr (⊎-elim (λ (w : Shorter (k + 1) xs ys r). inl (shorter-by k x y xs ys r w)) (λ (w : Shorter (k + 1) ys xs s). inr (shorter-by k y x ys xs s w)) h))
+      inr (⊎-elim (λ (w : Shorter (k + 1) xs ys r). inl (shorter-by k x y xs ys r w)) (λ (w : Shorter (k + 1) ys xs s). inr (shorter-by k y x ys xs s w)) h))
       (compared one (k + 1) xs ys u r s p (subst (λ z. Run Line (k + 1) ys z s) (sym (d .1)) q))
 
   -- a run that is no longer is the beginning of the other

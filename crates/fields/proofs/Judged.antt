@@ -61,8 +61,9 @@ module _ (K : Kind) (text line : List ℕ) where
 
   pub taken : (v : K .Value) → FirstLine text line (drop (length line + 1) text) → TakesLine K line v → Takes K text v (length line + 1)
   taken v f t = record {
-      fits = record { shows = record { line = line-as (drop (length line + 1) text) v f (t .shows); formed = t .formed }; ranged = t .ranged };
-      within = omega (arith, ap length (f .shows), length-append line (10 ∷ drop (length line + 1) text)) }
+    fits = record { shows = record { line = line-as (drop (length line + 1) text) v f (t .shows); formed = t .formed }; ranged = t .ranged };
+    within = omega (arith, ap length (f .shows), length-append line (10 ∷ drop (length line + 1) text));
+  }
 
 -- the rest of a text, as `&text[at..]` has it
 abbrev pub rest-from : (text : List ℕ) (at : ℕ) → List ℕ

@@ -3,6 +3,7 @@ ghost use Rattle.std.specs.Options.{Cases as BySome};
 ghost use Rattle.fields.specs.Lines.{Number};
 
 const ZERO: u8 = b'0';
+
 const NINE: u8 = b'9';
 
 // The number that a text shows.

@@ -7,7 +7,8 @@ use Rattle.fields.specs.Kinds.{Kind}
 -- a key and a count from 1 to `most`
 abbrev pub countKind : (key : List ℕ) → (most : ℕ) → Kind
 countKind key most = record {
-    Value = ℕ;
-    written = λ n. field key n [];
-    Formed = Small;
-    Ranged = λ n. (1 ≤ n) × (n ≤ most) }
+  Value = ℕ;
+  written = λ n. field key n [];
+  Formed = Small;
+  Ranged = λ n. (1 ≤ n) × (n ≤ most);
+}

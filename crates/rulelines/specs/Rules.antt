@@ -26,10 +26,11 @@ pub record Ranged (k i : ℕ) (r : Rule) : Type 0 where
 -- the line of rule k: a number and a rule
 abbrev pub ruleKind : (k : ℕ) → Kind
 ruleKind k = record {
-    Value = ℕ × Rule;
-    written = λ v. ruleLine (v .0) (v .1);
-    Formed = λ v. Formed (v .0) (v .1);
-    Ranged = λ v. Ranged k (v .0) (v .1) }
+  Value = ℕ × Rule;
+  written = λ v. ruleLine (v .0) (v .1);
+  Formed = λ v. Formed (v .0) (v .1);
+  Ranged = λ v. Ranged k (v .0) (v .1);
+}
 
 -- the numbers of a line as a rule, in range or not
 abbrev pub ruleOf : Numbers → Rule

@@ -44,10 +44,18 @@ fn judge(line: &[u8], place: usize, key: CountKey, most: usize) -> Result<usize,
 }
 
 // A line of one key and a count from 1 to `most`; `place` is the line's, for a refusal.
-pub fn read_count(text: &[u8], place: usize, key: CountKey, most: usize) -> Result<CountLine, LineFault>
+pub fn read_count(
+    text: &[u8],
+    place: usize,
+    key: CountKey,
+    most: usize,
+) -> Result<CountLine, LineFault>
     ensures { λ r. ⌜ Cases r (λ a. Takes (countKind (countText key) most) (now (text .entry)) (a .count) (a .used)) (λ e. Refuses (countKind (countText key) most) (now (text .entry)) place e) ⌝ }
 {
     let line = first_line(text, place)?;
     let count = judge(line, place, key, most)?;
-    Ok(CountLine { count, used: line.len() + 1 })
+    Ok(CountLine {
+        count,
+        used: line.len() + 1,
+    })
 }

@@ -28,5 +28,10 @@ pub(crate) fn entry_of(line: &[u8]) -> Option<Entry>
     if b.to < line.len() {
         return None;
     }
-    Some(Entry { number: number.number, operator: operator.operator, a: a.number, b: b.number })
+    Some(Entry {
+        number: number.number,
+        operator: operator.operator,
+        a: a.number,
+        b: b.number,
+    })
 }

@@ -37,5 +37,8 @@ pub fn read_formula(text: &[u8], place: usize, k: usize) -> Result<FormulaLine, 
     let line = first_line(text, place)?;
     let v = judge(line, place, k)?;
     let formula = formula_of(v.operator, v.a, v.b);
-    Ok(FormulaLine { formula, used: line.len() + 1 })
+    Ok(FormulaLine {
+        formula,
+        used: line.len() + 1,
+    })
 }

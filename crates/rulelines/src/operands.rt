@@ -32,7 +32,12 @@ fn operand_b(operator: Operator) -> Operand
     ensures { λ r. ⌜ r ≡ columnB operator ⌝ }
 {
     match operator {
-        Operator::And | Operator::Or | Operator::Until | Operator::Since | Operator::At | Operator::Some => Operand::Part,
+        Operator::And
+        | Operator::Or
+        | Operator::Until
+        | Operator::Since
+        | Operator::At
+        | Operator::Some => Operand::Part,
         _ => Operand::Unused,
     }
 }

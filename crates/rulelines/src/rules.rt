@@ -36,7 +36,11 @@ fn numbers_of(line: &[u8]) -> Option<Numbers>
     if content.to < line.len() {
         return None;
     }
-    Some(Numbers { number: number.number, condition: condition.number, content: content.number })
+    Some(Numbers {
+        number: number.number,
+        condition: condition.number,
+        content: content.number,
+    })
 }
 
 // The rule that the numbers of a line give as number k, if they are in their ranges.
@@ -46,7 +50,10 @@ fn rule_of(v: Numbers, k: usize) -> Option<Rule>
     if v.number != k as u64 || v.condition > LAST_NUMBER || v.content > LAST_NUMBER {
         return None;
     }
-    Some(Rule { condition: v.condition as usize, content: v.content as usize })
+    Some(Rule {
+        condition: v.condition as usize,
+        content: v.content as usize,
+    })
 }
 
 fn judge(line: &[u8], place: usize, k: usize) -> Result<Rule, LineFault>
@@ -67,5 +74,8 @@ pub fn read_rule(text: &[u8], place: usize, k: usize) -> Result<RuleLine, LineFa
 {
     let line = first_line(text, place)?;
     let rule = judge(line, place, k)?;
-    Ok(RuleLine { rule, used: line.len() + 1 })
+    Ok(RuleLine {
+        rule,
+        used: line.len() + 1,
+    })
 }

@@ -24,9 +24,9 @@ module _ (text : List ℕ) (a : Section) (vs : List Entry) (h : FormulasRead tex
   pub rules-stop : (e : ReadFault) → Stops (ruleBlock (formulasOf (a .draft))) (rest-from text (a .used)) (a .count + 2) e → Refused text e
   rules-stop e s =
       let t : Stops (ruleBlock (formulasOf (a .draft))) (drop (a .used) text) (a .count + 2) e =
-        subst (λ z. Stops (ruleBlock (formulasOf (a .draft))) z (a .count + 2) e) (take-rest text (a .used)) s in
+      subst (λ z. Stops (ruleBlock (formulasOf (a .draft))) z (a .count + 2) e) (take-rest text (a .used)) s in
       let u : Stops (ruleBlock (meanings vs)) (drop (a .used) text) (a .count + 2) e =
-        subst (λ z. Stops (ruleBlock z) (drop (a .used) text) (a .count + 2) e) (h .means) t in
+      subst (λ z. Stops (ruleBlock z) (drop (a .used) text) (a .count + 2) e) (h .means) t in
       inr (record { entries = vs; middle = drop (a .used) text; formulaLines = h .lines; stops = subst (λ z. Stops (ruleBlock (meanings vs)) (drop (a .used) text) (z + 2) e) (h .count) u })
 
   module _ (b : Section) (r : RulesRead (rest-from text (a .used)) (formulasOf (a .draft)) b) where
@@ -35,16 +35,17 @@ module _ (text : List ℕ) (a : Section) (vs : List Entry) (h : FormulasRead tex
         let q : RulesRead (drop (a .used) text) (formulasOf (a .draft)) b = subst (λ z. RulesRead z (formulasOf (a .draft)) b) (take-rest text (a .used)) r in
         let f : formulasOf (t .draft) ≡ formulasOf (a .draft) = ap formulasOf e ∙ q .same in
         let l : Begins (ruleBlock (formulasOf (a .draft))) (length (rulesOf (b .draft))) (rulesOf (b .draft)) (drop (a .used) text) (drop (a .used + b .used) text) =
-          subst (λ z. Begins (ruleBlock (formulasOf (a .draft))) (length (rulesOf (b .draft))) (rulesOf (b .draft)) (drop (a .used) text) z) (drop-drop (b .used) (a .used) text) (q .lines) in
+        subst (λ z. Begins (ruleBlock (formulasOf (a .draft))) (length (rulesOf (b .draft))) (rulesOf (b .draft)) (drop (a .used) text) z) (drop-drop (b .used) (a .used) text) (q .lines) in
         let m : Begins (ruleBlock (formulasOf (t .draft))) (length (rulesOf (b .draft))) (rulesOf (b .draft)) (drop (a .used) text) (drop (a .used + b .used) text) =
-          subst (λ z. Begins (ruleBlock z) (length (rulesOf (b .draft))) (rulesOf (b .draft)) (drop (a .used) text) (drop (a .used + b .used) text)) (sym f) l in
+        subst (λ z. Begins (ruleBlock z) (length (rulesOf (b .draft))) (rulesOf (b .draft)) (drop (a .used) text) (drop (a .used + b .used) text)) (sym f) l in
         record {
           entries = vs;
           middle = drop (a .used) text;
           formulaLines = h .lines;
           means = f ∙ h .means;
           ruleLines = subst (λ z. Begins (ruleBlock (formulasOf (t .draft))) (length z) z (drop (a .used) text) (drop (a .used + b .used) text)) (sym (ap rulesOf e)) m;
-          within = omega (arith, q .within, length-drop (a .used) text, h .within) }
+          within = omega (arith, q .within, length-drop (a .used) text, h .within);
+        }
 
     -- both blocks have lines, so the table is finished
     pub finishes : (why : Defect) → Finished (b .draft) (Err why) → ⊥

@@ -36,9 +36,10 @@ module _ {A : Type 0} (B : Block A) (text : List ℕ) (n : ℕ) where
 
   block-more : (xs : List A) (x : A) (rest after : List ℕ) → Begins B n xs text rest → B .Line (length xs) x rest after → Begins B n (xs ++ (x ∷ [])) text after
   block-more xs x rest after b l = record {
-      middle = b .middle;
-      counts = b .counts;
-      run = run-more (B .Line) 0 xs x (length xs) (b .middle) rest after (omega arith) (b .run) l }
+    middle = b .middle;
+    counts = b .counts;
+    run = run-more (B .Line) 0 xs x (length xs) (b .middle) rest after (omega arith) (b .run) l;
+  }
 
 -- ── formulas: k of n lines have joined the draft, and end at a place ──
 pub record Formulas (text : List ℕ) (n k at : ℕ) (d : Draft) : Type 0 where
@@ -53,14 +54,15 @@ pub record Formulas (text : List ℕ) (n k at : ℕ) (d : Draft) : Type 0 where
 
 pub formulas-start : (text : List ℕ) (n used : ℕ) (d : Draft) → Takes formulaCount text n used → formulasOf d ≡ [] → rulesOf d ≡ [] → Formulas text n 0 used d
 formulas-start text n used d t f r = record {
-    entries = [];
-    lines = block-start formulaBlock text n (drop used text) (t .fits);
-    count = refl;
-    means = f;
-    ruleless = r;
-    within = t .within;
-    few = t .fits .ranged .1;
-    some = t .fits .ranged .0 }
+  entries = [];
+  lines = block-start formulaBlock text n (drop used text) (t .fits);
+  count = refl;
+  means = f;
+  ruleless = r;
+  within = t .within;
+  few = t .fits .ranged .1;
+  some = t .fits .ranged .0;
+}
 
 pub formula-range : (text : List ℕ) (k : ℕ) (φ : Formula) (used : ℕ) → FormulaTaken text k φ used → InRange φ
 formula-range text k φ used (v, t, e) =
@@ -75,8 +77,8 @@ module _ (text : List ℕ) (n k at : ℕ) (d : Draft) (h : Formulas text n k at 
       let f = taken-at (formulaKind k) text at v used (h .within) t in
       let o : Founded k (meaning v) = subst (Founded k) m (subst (λ z. Founded z φ) formulas-count founded) in
       let l : Begins formulaBlock n (h .entries ++ (v ∷ [])) text (drop (at + used) text) =
-        block-more formulaBlock text n (h .entries) v (drop at text) (drop (at + used) text) (h .lines)
-        (subst (λ z. formulaBlock .Line z v (drop at text) (drop (at + used) text)) (sym (h .count)) (f .0, o)) in
+      block-more formulaBlock text n (h .entries) v (drop at text) (drop (at + used) text) (h .lines)
+      (subst (λ z. formulaBlock .Line z v (drop at text) (drop (at + used) text)) (sym (h .count)) (f .0, o)) in
       record {
         entries = h .entries ++ (v ∷ []);
         lines = l;
@@ -85,7 +87,8 @@ module _ (text : List ℕ) (n k at : ℕ) (d : Draft) (h : Formulas text n k at 
         ruleless = kept ∙ h .ruleless;
         within = f .1;
         few = h .few;
-        some = h .some }
+        some = h .some;
+      }
 
   pub formulas-stop : k < n → (e : ReadFault) → FormulaRefused k (drop at text) (k + 2) e → Stops formulaBlock text 1 e
   formulas-stop w e r =
@@ -114,27 +117,29 @@ pub record Rules (text : List ℕ) (formulas : List Formula) (n k at : ℕ) (d :
 
 pub rules-start : (text : List ℕ) (n used : ℕ) (d : Draft) → Takes ruleCount text n used → rulesOf d ≡ [] → Rules text (formulasOf d) n 0 used d
 rules-start text n used d t r = record {
-    lines = subst (λ z. Begins (ruleBlock (formulasOf d)) n z text (drop used text)) (sym r) (block-start (ruleBlock (formulasOf d)) text n (drop used text) (t .fits));
-    count = ap length r;
-    same = refl;
-    within = t .within;
-    few = t .fits .ranged .1;
-    some = t .fits .ranged .0 }
+  lines = subst (λ z. Begins (ruleBlock (formulasOf d)) n z text (drop used text)) (sym r) (block-start (ruleBlock (formulasOf d)) text n (drop used text) (t .fits));
+  count = ap length r;
+  same = refl;
+  within = t .within;
+  few = t .fits .ranged .1;
+  some = t .fits .ranged .0;
+}
 
 module _ (text : List ℕ) (formulas : List Formula) (n k at : ℕ) (d : Draft) (h : Rules text formulas n k at d) where
   pub rules-more : (r : Rule) (used place : ℕ) (e : Draft) → Takes (ruleKind k) (rest-from text at) (k, r) used → RuleJoins d r place (Ok tt) e → Rules text formulas n (k + 1) (at + used) e
   rules-more r used place e t (ruled, added, kept) =
       let f = taken-at (ruleKind k) text at (k, r) used (h .within) t in
       let l : Begins (ruleBlock formulas) n (rulesOf d ++ (r ∷ [])) text (drop (at + used) text) =
-        block-more (ruleBlock formulas) text n (rulesOf d) r (drop at text) (drop (at + used) text) (h .lines)
-        (subst (λ z. ruleBlock formulas .Line z r (drop at text) (drop (at + used) text)) (sym (h .count)) (f .0, subst (λ z. Ruled z r) (h .same) ruled)) in
+      block-more (ruleBlock formulas) text n (rulesOf d) r (drop at text) (drop (at + used) text) (h .lines)
+      (subst (λ z. ruleBlock formulas .Line z r (drop at text) (drop (at + used) text)) (sym (h .count)) (f .0, subst (λ z. Ruled z r) (h .same) ruled)) in
       record {
         lines = subst (λ z. Begins (ruleBlock formulas) n z text (drop (at + used) text)) (sym added) l;
         count = ap length added ∙ length-push (rulesOf d) r ∙ ap (λ z. z + 1) (h .count);
         same = kept ∙ h .same;
         within = f .1;
         few = h .few;
-        some = h .some }
+        some = h .some;
+      }
 
   pub rules-stop : k < n → (place : ℕ) (e : ReadFault) → RuleRefused formulas k (drop at text) (place + 1 + k) e → Stops (ruleBlock formulas) text place e
   rules-stop w place e r =

@@ -32,7 +32,7 @@ module _ {A : Type 0} (B : Block A) (clear : Clear B) (text : List ℕ) where
       ⊎-elim
       (λ (h : (xs ≡ ys) × (r ≡ s)). h)
       (λ (h : Shorter (B .Line) 0 xs ys r ⊎ Shorter (B .Line) 0 ys xs s).
-        absurd (⊎-elim (λ (w : Shorter (B .Line) 0 xs ys r). omega (arith, d .0, w .fewer)) (λ (w : Shorter (B .Line) 0 ys xs s). omega (arith, d .0, w .fewer)) h))
+      absurd (⊎-elim (λ (w : Shorter (B .Line) 0 xs ys r). omega (arith, d .0, w .fewer)) (λ (w : Shorter (B .Line) 0 ys xs s). omega (arith, d .0, w .fewer)) h))
       (d .1)
 
   -- a refused line is not followed by more
@@ -46,7 +46,7 @@ module _ {A : Type 0} (B : Block A) (clear : Clear B) (text : List ℕ) where
       ⊎-elim
       (λ (h : (xs ≡ ys) × (r ≡ s)). omega (arith, d .0, ap length (h .0)))
       (λ (h : Shorter (B .Line) 0 xs ys r ⊎ Shorter (B .Line) 0 ys xs s).
-        ⊎-elim (λ (w : Shorter (B .Line) 0 xs ys r). omega (arith, d .0, w .fewer)) (λ (w : Shorter (B .Line) 0 ys xs s). last ys xs s _ e x w) h)
+      ⊎-elim (λ (w : Shorter (B .Line) 0 xs ys r). omega (arith, d .0, w .fewer)) (λ (w : Shorter (B .Line) 0 ys xs s). last ys xs s _ e x w) h)
       (d .1)
 
   pub one-stop : (p : ℕ) (e f : ReadFault) → Stops B text p e → Stops B text p f → e ≡ f
@@ -57,8 +57,8 @@ module _ {A : Type 0} (B : Block A) (clear : Clear B) (text : List ℕ) where
       let d = both m n xs ys r s a b in
       ⊎-elim
       (λ (h : (xs ≡ ys) × (r ≡ s)).
-        clear .line-fault (length xs) r (p + 1 + length xs) e f x
-        (subst (λ z. B .LineRefused (length z) r (p + 1 + length z) f) (sym (h .0)) (subst (λ z. B .LineRefused (length ys) z (p + 1 + length ys) f) (sym (h .1)) y)))
+      clear .line-fault (length xs) r (p + 1 + length xs) e f x
+      (subst (λ z. B .LineRefused (length z) r (p + 1 + length z) f) (sym (h .0)) (subst (λ z. B .LineRefused (length ys) z (p + 1 + length ys) f) (sym (h .1)) y)))
       (λ (h : Shorter (B .Line) 0 xs ys r ⊎ Shorter (B .Line) 0 ys xs s).
-        absurd (⊎-elim (λ (w : Shorter (B .Line) 0 xs ys r). last xs ys r _ e x w) (λ (w : Shorter (B .Line) 0 ys xs s). last ys xs s _ f y w) h))
+      absurd (⊎-elim (λ (w : Shorter (B .Line) 0 xs ys r). last xs ys r _ e x w) (λ (w : Shorter (B .Line) 0 ys xs s). last ys xs s _ f y w) h))
       (d .1)

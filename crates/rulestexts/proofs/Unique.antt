@@ -65,12 +65,13 @@ formula-fault k t p (Table (Loose l)) f x y = absurd x
 
 pub formulas-clear : Clear formulaBlock
 formulas-clear = record {
-    one-count = λ m n t r s a b. one-fit formulaCount (count-single (codes "formulas=") 64) m n t r s a b;
-    count-or = λ n t r p e a x. fit-or formulaCount (count-single (codes "formulas=") 64) n t r p e a x;
-    count-fault = λ t p e f x y. only-one formulaCount (count-single (codes "formulas=") 64) t p e f x y;
-    one-line = formula-line;
-    line-or = formula-or;
-    line-fault = formula-fault }
+  one-count = λ m n t r s a b. one-fit formulaCount (count-single (codes "formulas=") 64) m n t r s a b;
+  count-or = λ n t r p e a x. fit-or formulaCount (count-single (codes "formulas=") 64) n t r p e a x;
+  count-fault = λ t p e f x y. only-one formulaCount (count-single (codes "formulas=") 64) t p e f x y;
+  one-line = formula-line;
+  line-or = formula-or;
+  line-fault = formula-fault;
+}
 
 -- ── rules ──
 module _ (formulas : List Formula) where
@@ -106,12 +107,13 @@ module _ (formulas : List Formula) where
 
   pub rules-clear : Clear (ruleBlock formulas)
   rules-clear = record {
-      one-count = λ m n t r s a b. one-fit ruleCount (count-single (codes "rules=") 16) m n t r s a b;
-      count-or = λ n t r p e a x. fit-or ruleCount (count-single (codes "rules=") 16) n t r p e a x;
-      count-fault = λ t p e f x y. only-one ruleCount (count-single (codes "rules=") 16) t p e f x y;
-      one-line = λ k u v t r s a b. same-rule k u v t r s (a .0) (b .0);
-      line-or = rule-or;
-      line-fault = rule-fault }
+    one-count = λ m n t r s a b. one-fit ruleCount (count-single (codes "rules=") 16) m n t r s a b;
+    count-or = λ n t r p e a x. fit-or ruleCount (count-single (codes "rules=") 16) n t r p e a x;
+    count-fault = λ t p e f x y. only-one ruleCount (count-single (codes "rules=") 16) t p e f x y;
+    one-line = λ k u v t r s a b. same-rule k u v t r s (a .0) (b .0);
+    line-or = rule-or;
+    line-fault = rule-fault;
+  }
 
 -- ── the whole text ──
 module _ (text : List ℕ) where
@@ -120,7 +122,7 @@ module _ (text : List ℕ) where
       let d = one-whole formulaBlock formulas-clear text (a .entries) (b .entries) (a .middle) (b .middle) (a .formulaLines) (b .formulaLines) in
       let f : fs ≡ gs = a .means ∙ ap meanings (d .0) ∙ sym (b .means) in
       let l : Begins (ruleBlock fs) (length qs) qs (a .middle) (drop n text) =
-        subst (λ z. Begins (ruleBlock z) (length qs) qs (a .middle) (drop n text)) (sym f) (subst (λ z. Begins (ruleBlock gs) (length qs) qs z (drop n text)) (sym (d .1)) (b .ruleLines)) in
+      subst (λ z. Begins (ruleBlock z) (length qs) qs (a .middle) (drop n text)) (sym f) (subst (λ z. Begins (ruleBlock gs) (length qs) qs z (drop n text)) (sym (d .1)) (b .ruleLines)) in
       let e = one-whole (ruleBlock fs) (rules-clear fs) (a .middle) rs qs (drop m text) (drop n text) (a .ruleLines) l in
       let u : length (drop m text) ≡ length (drop n text) = ap length (e .1) in
       (f, e .0, omega (arith, a .within, b .within, length-drop m text, length-drop n text))

@@ -41,10 +41,11 @@ formulaCount = countKind (codes "formulas=") 64
 
 abbrev pub formulaBlock : Block Entry
 formulaBlock = record {
-    Counts = λ n text rest. Fits formulaCount text n rest;
-    CountRefused = LineOnly formulaCount;
-    Line = FormulaFits;
-    LineRefused = FormulaRefused }
+  Counts = λ n text rest. Fits formulaCount text n rest;
+  CountRefused = LineOnly formulaCount;
+  Line = FormulaFits;
+  LineRefused = FormulaRefused;
+}
 
 -- ── rules: each names two formulas, and neither is loose ──
 abbrev pub RuleFits : List Formula → (k : ℕ) → Rule → (text rest : List ℕ) → Type 0
@@ -62,7 +63,8 @@ ruleCount = countKind (codes "rules=") 16
 
 abbrev pub ruleBlock : List Formula → Block Rule
 ruleBlock formulas = record {
-    Counts = λ n text rest. Fits ruleCount text n rest;
-    CountRefused = LineOnly ruleCount;
-    Line = RuleFits formulas;
-    LineRefused = RuleRefused formulas }
+  Counts = λ n text rest. Fits ruleCount text n rest;
+  CountRefused = LineOnly ruleCount;
+  Line = RuleFits formulas;
+  LineRefused = RuleRefused formulas;
+}

@@ -10,7 +10,11 @@ use logic::types::Rule;
 use table::defects::Defect;
 use table::draft::Draft;
 
-pub(crate) fn join_formula(draft: &mut Draft, formula: Formula, place: usize) -> Result<(), TableFault>
+pub(crate) fn join_formula(
+    draft: &mut Draft,
+    formula: Formula,
+    place: usize,
+) -> Result<(), TableFault>
     requires room { ⌜ length (formulasOf (now draft)) < 64 ⌝ }
     requires range { ⌜ InRange formula ⌝ }
     ensures { λ r. ⌜ FormulaJoins (now (draft .entry)) formula place r (now (draft .exit)) ⌝ }

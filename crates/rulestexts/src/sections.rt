@@ -19,6 +19,7 @@ use rulelines::rules::read_rule;
 use table::draft::Draft;
 
 const MOST_FORMULAS: usize = 64;
+
 const MOST_RULES: usize = 16;
 
 // What was read so far: the table under construction, how many lines joined it, and how many bytes they took.
@@ -41,7 +42,11 @@ pub(crate) fn read_formulas(text: &[u8]) -> Result<Section, ReadFault>
         join_formula(&mut draft, line.formula, k + 2)?;
         at += line.used;
     }
-    Ok(Section { draft, count: head.count, used: at })
+    Ok(Section {
+        draft,
+        count: head.count,
+        used: at,
+    })
 }
 
 // The rules that a text begins with, over the formulas read before; `place` is that of the first line.
@@ -58,5 +63,9 @@ pub(crate) fn read_rules(text: &[u8], place: usize, formulas: Draft) -> Result<S
         join_rule(&mut draft, line.rule, place + 1 + k)?;
         at += line.used;
     }
-    Ok(Section { draft, count: head.count, used: at })
+    Ok(Section {
+        draft,
+        count: head.count,
+        used: at,
+    })
 }

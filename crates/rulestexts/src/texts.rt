@@ -23,7 +23,10 @@ fn read_rest(text: &[u8], formulas: Section) -> Result<RulesText, ReadFault>
     let at = formulas.used;
     let rules = read_rules(&text[at..], formulas.count + 2, formulas.draft)?;
     match rules.draft.finish() {
-        Ok(table) => Ok(RulesText { table, used: at + rules.used }),
+        Ok(table) => Ok(RulesText {
+            table,
+            used: at + rules.used,
+        }),
         // Never: each block that was read has a line at least.
         Err(_) => Err(ReadFault::Line(LineFault::Range(1))),
     }

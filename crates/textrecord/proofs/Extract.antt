@@ -53,14 +53,19 @@ from-signals q = field (codes "signals=") (q .signals) (32 ∷ from-mark q)
 module _ (i : ℕ) (q : State) (f : Formed i q) where
   at-signals : nextIn (traceLine i q) ≡ from-signals q
   at-signals = read-next i (from-signals q) (f .number)
+
   at-mark : nextIn (nextIn (traceLine i q)) ≡ from-mark q
   at-mark = ap nextIn at-signals ∙ read-next (q .signals) (from-mark q) (f .signals)
+
   at-ka : nextIn (nextIn (nextIn (traceLine i q))) ≡ from-ka q
   at-ka = ap nextIn at-mark ∙ read-next (q .nominal) (from-ka q) (f .nominal)
+
   at-ta : nextIn (nextIn (nextIn (nextIn (traceLine i q)))) ≡ from-ta q
   at-ta = ap nextIn at-ka ∙ read-next (q .first .kind) (from-ta q) (f .firstKind)
+
   at-kb : nextIn (nextIn (nextIn (nextIn (nextIn (traceLine i q))))) ≡ from-kb q
   at-kb = ap nextIn at-ta ∙ read-next (q .first .target) (from-kb q) (f .firstTarget)
+
   at-tb : nextIn (nextIn (nextIn (nextIn (nextIn (nextIn (traceLine i q)))))) ≡ from-tb q
   at-tb = ap nextIn at-kb ∙ read-next (q .second .kind) (from-tb q) (f .secondKind)
 

@@ -41,7 +41,7 @@ one-list text xs ys a b =
     ⊎-elim
     (λ (h : (xs ≡ ys) × (a .rest ≡ b .rest)). h .0)
     (λ (h : Shorter Passes 0 xs ys (a .rest) ⊎ Shorter Passes 0 ys xs (b .rest)).
-      absurd (⊎-elim (λ (w : Shorter Passes 0 xs ys (a .rest)). longest text xs ys a w) (λ (w : Shorter Passes 0 ys xs (b .rest)). longest text ys xs b w) h))
+    absurd (⊎-elim (λ (w : Shorter Passes 0 xs ys (a .rest)). longest text xs ys a w) (λ (w : Shorter Passes 0 ys xs (b .rest)). longest text ys xs b w) h))
     (compared Passes one-state 0 xs ys text (a .rest) (b .rest) (a .lines) (b .lines))
 
 -- ── k lines have passed, and end at a place ──
@@ -67,11 +67,12 @@ module _ (text : List ℕ) (at k : ℕ) (w : Walk text at k) where
 
     pub walk-more : Walk text (at + a .used) (k + 1)
     walk-more = record {
-        states = w .states ++ (a .state ∷ []);
-        lines = more;
-        count = length-append (w .states) (a .state ∷ []) ∙ omega (arith, w .count);
-        within = taken-at (traceKind k) text at (k + 1, a .state) (a .used) (w .within) t .1;
-        room = passed .ranged .1 .number }
+      states = w .states ++ (a .state ∷ []);
+      lines = more;
+      count = length-append (w .states) (a .state ∷ []) ∙ omega (arith, w .count);
+      within = taken-at (traceKind k) text at (k + 1, a .state) (a .used) (w .within) t .1;
+      room = passed .ranged .1 .number;
+    }
 
     -- the listed states begin with those that passed
     covered : length (w .states ++ (a .state ∷ [])) ≤ length (statesOf text)
@@ -80,9 +81,9 @@ module _ (text : List ℕ) (at k : ℕ) (w : Walk text at k) where
         ⊎-elim
         (λ (h : (w .states ++ (a .state ∷ []) ≡ statesOf text) × (drop (at + a .used) text ≡ l .rest)). omega (arith, ap length (h .0)))
         (λ (h : Shorter Passes 0 (w .states ++ (a .state ∷ [])) (statesOf text) (drop (at + a .used) text) ⊎ Shorter Passes 0 (statesOf text) (w .states ++ (a .state ∷ [])) (l .rest)).
-          ⊎-elim
-          (λ (x : Shorter Passes 0 (w .states ++ (a .state ∷ [])) (statesOf text) (drop (at + a .used) text)). omega (arith, x .fewer))
-          (λ (x : Shorter Passes 0 (statesOf text) (w .states ++ (a .state ∷ [])) (l .rest)). absurd (longest text (statesOf text) (w .states ++ (a .state ∷ [])) l x)) h)
+        ⊎-elim
+        (λ (x : Shorter Passes 0 (w .states ++ (a .state ∷ [])) (statesOf text) (drop (at + a .used) text)). omega (arith, x .fewer))
+        (λ (x : Shorter Passes 0 (statesOf text) (w .states ++ (a .state ∷ [])) (l .rest)). absurd (longest text (statesOf text) (w .states ++ (a .state ∷ [])) l x)) h)
         (compared Passes one-state 0 (w .states ++ (a .state ∷ [])) (statesOf text) text (drop (at + a .used) text) (l .rest) more (l .lines))
 
     pub walk-state : (i : ℕ) → k + 1 ≡ i → a .state ≡ stateAt (statesOf text) i
@@ -91,11 +92,11 @@ module _ (text : List ℕ) (at k : ℕ) (w : Walk text at k) where
         let xs : List State = w .states ++ (a .state ∷ []) in
         let l : Listed text (statesOf text) = lists-lines text in
         let b : take (length xs) (statesOf text) ≡ xs =
-          beginning Passes one-state 0 xs (statesOf text) text (drop (at + a .used) text) (l .rest) more (l .lines) covered in
+        beginning Passes one-state 0 xs (statesOf text) text (drop (at + a .used) text) (l .rest) more (l .lines) covered in
         let n : length xs ≡ k + 1 = walk-more .count in
         let g : getD (statesOf text) k blank ≡ a .state =
-          sym (getD-take (length xs) (statesOf text) k blank (omega (arith, n)))
-          ∙ ap (λ z. getD z k blank) b ∙ getD-push (w .states) (a .state) blank k (w .count) in
+        sym (getD-take (length xs) (statesOf text) k blank (omega (arith, n)))
+        ∙ ap (λ z. getD z k blank) b ∙ getD-push (w .states) (a .state) blank k (w .count) in
         let s : suc k ≡ i = omega (arith, e) in
         subst (λ z. a .state ≡ stateAt (statesOf text) z) s (sym g)
 
@@ -106,8 +107,9 @@ module _ (text : List ℕ) (at k : ℕ) (w : Walk text at k) where
         rest = drop at text;
         lines = w .lines;
         ended = λ q u p.
-          let p′ : Passes k q (drop at text) u = subst (λ z. Passes z q (drop at text) u) (w .count) p in
-          judged.fit-or-refused (traceKind k) (single k) (drop at text) (k + 1, q) u 1 e (p′ .shows) (p′ .ranged) x } in
+            let p′ : Passes k q (drop at text) u = subst (λ z. Passes z q (drop at text) u) (w .count) p in
+            judged.fit-or-refused (traceKind k) (single k) (drop at text) (k + 1, q) u 1 e (p′ .shows) (p′ .ranged) x;
+      } in
       sym (w .count) ∙ ap length (one-list text (w .states) (statesOf text) l (lists-lines text))
 
 pub past-end : (xs : List State) (k i : ℕ) → k ≡ length xs → (0 < i → k < i) → blank ≡ stateAt xs i

@@ -45,14 +45,17 @@ nextIn line = past 32 line
 -- the state that a line shows, if it is a trace line
 unfoldable pub stateIn : List ℕ → State
 stateIn line = record {
-    signals = numberIn (nextIn line);
-    nominal = numberIn (nextIn (nextIn line));
-    first = record {
-      kind = numberIn (nextIn (nextIn (nextIn line)));
-      target = numberIn (nextIn (nextIn (nextIn (nextIn line)))) };
-    second = record {
-      kind = numberIn (nextIn (nextIn (nextIn (nextIn (nextIn line)))));
-      target = numberIn (nextIn (nextIn (nextIn (nextIn (nextIn (nextIn line)))))) } }
+  signals = numberIn (nextIn line);
+  nominal = numberIn (nextIn (nextIn line));
+  first = record {
+    kind = numberIn (nextIn (nextIn (nextIn line)));
+    target = numberIn (nextIn (nextIn (nextIn (nextIn line))));
+  };
+  second = record {
+    kind = numberIn (nextIn (nextIn (nextIn (nextIn (nextIn line)))));
+    target = numberIn (nextIn (nextIn (nextIn (nextIn (nextIn (nextIn line))))));
+  };
+}
 
 unfoldable pub sameBytes : List ℕ → List ℕ → Bool
 sameBytes [] [] = true
@@ -77,8 +80,8 @@ unfoldable pub statesFrom : (room count : ℕ) → List ℕ → List State
 statesFrom zero count text = []
 statesFrom (suc room) count text =
     cond (passes count text)
-      (stateIn (before 10 text) ∷ statesFrom room (count + 1) (drop (length (before 10 text) + 1) text))
-      []
+    (stateIn (before 10 text) ∷ statesFrom room (count + 1) (drop (length (before 10 text) + 1) text))
+    []
 
 abbrev pub statesOf : List ℕ → List State
 statesOf text = statesFrom 256 0 text

@@ -27,9 +27,19 @@ keys-led : Led keys
 keys-led = (refl, (refl, (refl, (refl, (refl, (refl, tt))))))
 
 solids : (i : ℕ) (q : State) → Formed i q → All Solid (texts i q)
-solids i q f =
-    (solid-decimal _ (f .number), (solid-decimal _ (f .signals), (solid-decimal _ (f .nominal), (solid-decimal _ (f .firstKind),
-    (solid-decimal _ (f .firstTarget), (solid-decimal _ (f .secondKind), (solid-decimal _ (f .secondTarget), tt)))))))
+solids i q f = (
+  solid-decimal _ (f .number),
+  (
+    solid-decimal _ (f .signals),
+    (
+      solid-decimal _ (f .nominal),
+      (
+        solid-decimal _ (f .firstKind),
+        (solid-decimal _ (f .firstTarget), (solid-decimal _ (f .secondKind), (solid-decimal _ (f .secondTarget), tt))),
+      ),
+    ),
+  ),
+)
 
 -- a line that breaks off, whatever numbers it is held against, is no trace line
 pub breaks : (line : List ℕ) → ((i : ℕ) (q : State) → Formed i q → Broken line 0 keys (texts i q)) → ShowsNone (traceKind 0) line
@@ -49,7 +59,7 @@ pub same-state : (v w : State) → v .signals ≡ w .signals → v .nominal ≡ 
 unfolding state reference
 same-state v w e1 e2 e3 e4 e5 e6 =
     let p : state (v .signals) (v .nominal) (v .first .kind) (v .first .target) (v .second .kind) (v .second .target)
-          ≡ state (w .signals) (w .nominal) (w .first .kind) (w .first .target) (w .second .kind) (w .second .target) = cc in p
+    ≡ state (w .signals) (w .nominal) (w .first .kind) (w .first .target) (w .second .kind) (w .second .target) = cc in p
 
 -- a trace line shows one state, under one number
 pub one-shown : (i j : ℕ) (q p : State) → Formed i q → Formed j p → traceLine i q ≡ traceLine j p → (i ≡ j) × (q ≡ p)

@@ -12,10 +12,11 @@ use Rattle.traces.specs.Traces.{traceKind}
 -- the numbers of a line as a state, in range or not
 abbrev pub stateOf : Numbers → State
 stateOf v = record {
-    signals = v .signals;
-    nominal = v .nominal;
-    first = record { kind = v .«first_kind»; target = v .«first_target» };
-    second = record { kind = v .«second_kind»; target = v .«second_target» } }
+  signals = v .signals;
+  nominal = v .nominal;
+  first = record { kind = v .«first_kind»; target = v .«first_target» };
+  second = record { kind = v .«second_kind»; target = v .«second_target» };
+}
 
 abbrev pub Judged : (line : List ℕ) → (count : ℕ) → Result State LineFault → Type 0
 Judged line count (Ok q) = TakesLine (traceKind count) line (count + 1, q)

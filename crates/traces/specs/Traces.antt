@@ -45,10 +45,11 @@ pub record Allowed (i : ℕ) (q : State) : Type 0 where
 -- the line of a state after a count of states: a number and a state
 abbrev pub traceKind : (count : ℕ) → Kind
 traceKind count = record {
-    Value = ℕ × State;
-    written = λ v. traceLine (v .0) (v .1);
-    Formed = λ v. Formed (v .0) (v .1);
-    Ranged = λ v. (v .0 ≡ count + 1) × Allowed (v .0) (v .1) }
+  Value = ℕ × State;
+  written = λ v. traceLine (v .0) (v .1);
+  Formed = λ v. Formed (v .0) (v .1);
+  Ranged = λ v. (v .0 ≡ count + 1) × Allowed (v .0) (v .1);
+}
 
 -- What a text is read as after a count of states. The place of a refusal is line 1.
 abbrev pub Reads : List ℕ → (count : ℕ) → Result StateLine LineFault → Type 0

@@ -13,9 +13,13 @@ use logic::types::Reference;
 use logic::types::State;
 
 const LAST_STATE: u64 = 256;
+
 const LAST_KIND: u64 = 15;
+
 const LAST_TARGET: u64 = 256;
+
 const LAST_NOMINAL: u64 = 255;
+
 const LAST_SIGNALS: u64 = 4294967295;
 
 // A state that was read, and how many bytes its line took.
@@ -29,17 +33,31 @@ pub struct StateLine {
 fn state_of(v: Numbers, count: usize) -> Option<State>
     ensures { λ r. ⌜ BySome r ((v .state ≡ count + 1) × Allowed (v .state) (stateOf v) → ⊥) (λ q. (v .state ≡ count + 1) × Allowed (v .state) (stateOf v) × (q ≡ stateOf v)) ⌝ }
 {
-    if count as u64 >= LAST_STATE || v.state != count as u64 + 1 || v.signals > LAST_SIGNALS || v.nominal > LAST_NOMINAL {
+    if count as u64 >= LAST_STATE
+        || v.state != count as u64 + 1
+        || v.signals > LAST_SIGNALS
+        || v.nominal > LAST_NOMINAL
+    {
         return None;
     }
-    if v.first_kind > LAST_KIND || v.first_target > LAST_TARGET || v.second_kind > LAST_KIND || v.second_target > LAST_TARGET {
+    if v.first_kind > LAST_KIND
+        || v.first_target > LAST_TARGET
+        || v.second_kind > LAST_KIND
+        || v.second_target > LAST_TARGET
+    {
         return None;
     }
     Some(State {
         signals: v.signals as u32,
         nominal: v.nominal as u8,
-        first: Reference { kind: v.first_kind as u8, target: v.first_target as u16 },
-        second: Reference { kind: v.second_kind as u8, target: v.second_target as u16 },
+        first: Reference {
+            kind: v.first_kind as u8,
+            target: v.first_target as u16,
+        },
+        second: Reference {
+            kind: v.second_kind as u8,
+            target: v.second_target as u16,
+        },
     })
 }
 
@@ -62,5 +80,8 @@ pub fn read_state(text: &[u8], count: usize) -> Result<StateLine, LineFault>
 {
     let line = first_line(text, 1)?;
     let state = judge(line, count)?;
-    Ok(StateLine { state, used: line.len() + 1 })
+    Ok(StateLine {
+        state,
+        used: line.len() + 1,
+    })
 }

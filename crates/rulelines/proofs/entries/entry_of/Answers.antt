@@ -18,6 +18,7 @@ pub returns-then-b-line : need.returns-then-b-line
 returns-then-b-line c = no-formula (c .args .line .now) (λ v f. later (c .in-Continue-number .ensures tt .took) (later (c .in-Continue-operator .ensures tt) (later (c .in-Continue-a .ensures tt .took) (later (c .in-Continue-b .ensures tt .took) (over (c .if-b-line .taken))))))
 
 pub returns : need.returns
-returns c =
-    (record { number = c .in-Continue-number .ensures tt .small; a = c .in-Continue-a .ensures tt .small; b = c .in-Continue-b .ensures tt .small },
-     whole (next (c .in-Continue-number .ensures tt .took) (next (c .in-Continue-operator .ensures tt) (next (c .in-Continue-a .ensures tt .took) (next (c .in-Continue-b .ensures tt .took) (done (c .if-b-line .left)))))))
+returns c = (
+  record { number = c .in-Continue-number .ensures tt .small; a = c .in-Continue-a .ensures tt .small; b = c .in-Continue-b .ensures tt .small },
+  whole (next (c .in-Continue-number .ensures tt .took) (next (c .in-Continue-operator .ensures tt) (next (c .in-Continue-a .ensures tt .took) (next (c .in-Continue-b .ensures tt .took) (done (c .if-b-line .left)))))),
+)

@@ -9,7 +9,8 @@ returns-in-Break-v c =
     rw (p .1, p .2) (refused (formulaKind (c .args .k)) (c .args .text .now) (c .in-Continue-line .line .now) _ (c .args .place) _ (c .in-Continue-line .ensures tt) (c .in-Break-v .ensures tt))
 
 pub returns : need.returns
-returns c =
-    (c .in-Continue-v .v,
-     taken (formulaKind (c .args .k)) (c .args .text .now) (c .in-Continue-line .line .now) (c .in-Continue-v .v) (c .in-Continue-line .ensures tt) (c .in-Continue-v .ensures tt),
-     c .formula-of-formula .ensures)
+returns c = (
+  c .in-Continue-v .v,
+  taken (formulaKind (c .args .k)) (c .args .text .now) (c .in-Continue-line .line .now) (c .in-Continue-v .v) (c .in-Continue-line .ensures tt) (c .in-Continue-v .ensures tt),
+  c .formula-of-formula .ensures,
+)

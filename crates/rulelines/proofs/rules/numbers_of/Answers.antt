@@ -14,6 +14,7 @@ pub returns-then-content-line : need.returns-then-content-line
 returns-then-content-line c = no-rule (c .args .line .now) (λ i r f. later (c .in-Continue-number .ensures tt .took) (later (c .in-Continue-condition .ensures tt .took) (later (c .in-Continue-content .ensures tt .took) (over (c .if-content-line .taken)))))
 
 pub returns : need.returns
-returns c =
-    (record { number = c .in-Continue-number .ensures tt .small; condition = c .in-Continue-condition .ensures tt .small; content = c .in-Continue-content .ensures tt .small },
-     whole (next (c .in-Continue-number .ensures tt .took) (next (c .in-Continue-condition .ensures tt .took) (next (c .in-Continue-content .ensures tt .took) (done (c .if-content-line .left))))))
+returns c = (
+  record { number = c .in-Continue-number .ensures tt .small; condition = c .in-Continue-condition .ensures tt .small; content = c .in-Continue-content .ensures tt .small },
+  whole (next (c .in-Continue-number .ensures tt .took) (next (c .in-Continue-condition .ensures tt .took) (next (c .in-Continue-content .ensures tt .took) (done (c .if-content-line .left))))),
+)

@@ -30,4 +30,4 @@ returns-in-Break-join-formula c =
 pub loop-k-again : need.loop-k-again
 loop-k-again c =
     formulas-more (c .args .text .now) (c .in-Continue-head .head .count) (c .loop-k .k) (c .loop-k .at) (c .loop-k .draft) (c .loop-k .inv)
-      (c .in-Continue-line .line .formula) (c .in-Continue-line .line .used) (c .loop-k .k + 2) _ (c .in-Continue-line .ensures tt) (c .in-Continue-join-formula .ensures tt)
+    (c .in-Continue-line .line .formula) (c .in-Continue-line .line .used) (c .loop-k .k + 2) _ (c .in-Continue-line .ensures tt) (c .in-Continue-join-formula .ensures tt)

@@ -19,4 +19,4 @@ returns-in-Break-join-rule c =
 pub loop-k-again : need.loop-k-again
 loop-k-again c =
     rules-more (c .args .text .now) (formulasOf (c .args .formulas)) (c .in-Continue-head .head .count) (c .loop-k .k) (c .loop-k .at) (c .loop-k .draft) (c .loop-k .inv)
-      (c .in-Continue-line .line .rule) (c .in-Continue-line .line .used) (c .args .place + 1 + c .loop-k .k) _ (c .in-Continue-line .ensures tt) (c .in-Continue-join-rule .ensures tt)
+    (c .in-Continue-line .line .rule) (c .in-Continue-line .line .used) (c .args .place + 1 + c .loop-k .k) _ (c .in-Continue-line .ensures tt) (c .in-Continue-join-rule .ensures tt)

@@ -30,6 +30,7 @@ pub returns-then-tb-line : need.returns-then-tb-line
 returns-then-tb-line c = breaks (c .args .line .now) (λ i q f. later (c .in-Continue-state .ensures tt .took) (later (c .in-Continue-signals .ensures tt .took) (later (c .in-Continue-mark .ensures tt .took) (later (c .in-Continue-ka .ensures tt .took) (later (c .in-Continue-ta .ensures tt .took) (later (c .in-Continue-kb .ensures tt .took) (later (c .in-Continue-tb .ensures tt .took) (over (c .if-tb-line .taken)))))))))
 
 pub returns : need.returns
-returns c =
-    (record { number = c .in-Continue-state .ensures tt .small; signals = c .in-Continue-signals .ensures tt .small; nominal = c .in-Continue-mark .ensures tt .small; firstKind = c .in-Continue-ka .ensures tt .small; firstTarget = c .in-Continue-ta .ensures tt .small; secondKind = c .in-Continue-kb .ensures tt .small; secondTarget = c .in-Continue-tb .ensures tt .small },
-     whole (next (c .in-Continue-state .ensures tt .took) (next (c .in-Continue-signals .ensures tt .took) (next (c .in-Continue-mark .ensures tt .took) (next (c .in-Continue-ka .ensures tt .took) (next (c .in-Continue-ta .ensures tt .took) (next (c .in-Continue-kb .ensures tt .took) (next (c .in-Continue-tb .ensures tt .took) (done (c .if-tb-line .left))))))))))
+returns c = (
+  record { number = c .in-Continue-state .ensures tt .small; signals = c .in-Continue-signals .ensures tt .small; nominal = c .in-Continue-mark .ensures tt .small; firstKind = c .in-Continue-ka .ensures tt .small; firstTarget = c .in-Continue-ta .ensures tt .small; secondKind = c .in-Continue-kb .ensures tt .small; secondTarget = c .in-Continue-tb .ensures tt .small },
+  whole (next (c .in-Continue-state .ensures tt .took) (next (c .in-Continue-signals .ensures tt .took) (next (c .in-Continue-mark .ensures tt .took) (next (c .in-Continue-ka .ensures tt .took) (next (c .in-Continue-ta .ensures tt .took) (next (c .in-Continue-kb .ensures tt .took) (next (c .in-Continue-tb .ensures tt .took) (done (c .if-tb-line .left))))))))),
+)
