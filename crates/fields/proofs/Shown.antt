@@ -10,8 +10,8 @@ use Rattle.words.specs.Words.{word}
 use Rattle.words.specs.declared.Operator.{Operator}
 use Rattle.fields.specs.Lines.{Small}
 use Rattle.fields.specs.Fields.{Stop, Solid, Took, NoNumber, NoOperator}
-use Rattle.fields.proofs.Ends.{cut-unique}
-use Rattle.fields.proofs.Cuts.{step}
+use Rattle.fields.proofs.Ends.{one-parting}
+use Rattle.fields.proofs.Parted.{step}
 
 -- keys, each with the text under it
 abbrev pub shown : List (List ℕ) → List (List ℕ) → List ℕ
@@ -70,7 +70,7 @@ shown-unique [] [] (u ∷ us) m n l p q e = absurd (omega arith)
 shown-unique (k ∷ ks) [] us m n l p q e = absurd (omega arith)
 shown-unique (k ∷ ks) (t ∷ ts) [] m n l p q e = absurd (omega arith)
 shown-unique (k ∷ ks) (t ∷ ts) (u ∷ us) m n l p q e =
-    let d = cut-unique 32 t u (shown ks ts) (shown ks us) (p .0) (q .0) (stop-shown ks ts l) (stop-shown ks us l) (append-cancel-left k (t ++ shown ks ts) (u ++ shown ks us) e) in
+    let d = one-parting 32 t u (shown ks ts) (shown ks us) (p .0) (q .0) (stop-shown ks ts l) (stop-shown ks us l) (append-cancel-left k (t ++ shown ks ts) (u ++ shown ks us) e) in
     let i = shown-unique ks ts us (omega arith) (omega arith) (led ks l) (p .1) (q .1) (d .1) in
     cc (d .0, i)
 

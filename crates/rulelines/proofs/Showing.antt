@@ -8,7 +8,7 @@ use Rattle.logic.specs.declared.types.Rule.{Rule}
 use Rattle.words.specs.Words.{word}
 use Rattle.fields.specs.Fields.{Solid}
 use Rattle.fields.specs.Kinds.{ShowsNone}
-use Rattle.fields.proofs.Cuts.{solid-decimal}
+use Rattle.fields.proofs.Parted.{solid-decimal}
 use Rattle.fields.proofs.Named.{solid-word}
 use Rattle.fields.proofs.Shown.{Led, Broken, broken}
 use Rattle.rulelines.specs.declared.entries.Entry.{Entry}

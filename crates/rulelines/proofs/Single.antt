@@ -11,8 +11,8 @@ use Rattle.logic.specs.declared.types.Rule.{Rule}
 use Rattle.words.specs.Words.{word}
 use Rattle.words.specs.declared.Operator.{Operator}
 use Rattle.fields.specs.Lines.{Small}
-use Rattle.fields.proofs.Cuts.{solid-decimal}
-use Rattle.fields.proofs.Ends.{cut-unique}
+use Rattle.fields.proofs.Parted.{solid-decimal}
+use Rattle.fields.proofs.Ends.{one-parting}
 use Rattle.fields.proofs.Judged.{Single}
 use Rattle.fields.proofs.Named.{one-word}
 use Rattle.fields.proofs.Shown.{shown-unique}
@@ -28,7 +28,7 @@ same m n h k e = same-from-decimal m n (omega arith) (omega arith) e
 -- a line of a count shows one number
 pub count-single : (key : List ℕ) (most : ℕ) → Single (countKind key most)
 count-single key most m n f g e =
-    same m n f g (cut-unique 32 (decimal m) (decimal n) [] [] (solid-decimal m f) (solid-decimal n g) tt tt (append-cancel-left key (decimal m ++ []) (decimal n ++ []) e) .0)
+    same m n f g (one-parting 32 (decimal m) (decimal n) [] [] (solid-decimal m f) (solid-decimal n g) tt tt (append-cancel-left key (decimal m ++ []) (decimal n ++ []) e) .0)
 
 entry : ℕ → Operator → ℕ → ℕ → Entry
 entry k o a b = record { number = k; operator = o; a = a; b = b }

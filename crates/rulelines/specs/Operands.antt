@@ -3,6 +3,7 @@ use Prim.Native.Nat.{ℕ, _≤_}
 use mathlib.Core.Path.{_≡_}
 use Rattle.logic.specs.declared.types.Formula.{Formula}
 use Rattle.logic.specs.declared.types.Formula.the-variants as formula
+use Rattle.fields.specs.Lines.{numberLimit}
 use Rattle.words.specs.declared.Operator.{Operator}
 use Rattle.words.specs.declared.Operator.the-variants as op
 use Rattle.rulelines.specs.declared.operands.Operand.{Operand}
@@ -50,7 +51,7 @@ Within Unused n = n ≡ 0
 Within Signal n = n ≤ 31
 Within Nominal n = (1 ≤ n) × (n ≤ 255)
 Within Kind n = (1 ≤ n) × (n ≤ 15)
-Within Part n = n ≤ 4294967295
+Within Part n = n ≤ numberLimit
 
 -- the formula of an operator and its numbers
 abbrev pub meant : Operator → (a b : ℕ) → Formula

@@ -4,7 +4,7 @@ use mathlib.Core.List.{List, []}
 use mathlib.Core.Path.{_≡_}
 use lib.Chars.{codes}
 use Rattle.logic.specs.declared.types.Rule.{Rule}
-use Rattle.fields.specs.Lines.{Small, field}
+use Rattle.fields.specs.Lines.{Small, field, numberLimit}
 use Rattle.fields.specs.Kinds.{Kind}
 use Rattle.rulelines.specs.declared.rules.Numbers.{Numbers}
 
@@ -20,8 +20,8 @@ pub record Formed (i : ℕ) (r : Rule) : Type 0 where
 
 pub record Ranged (k i : ℕ) (r : Rule) : Type 0 where
   pub number : i ≡ k
-  pub condition : r .condition ≤ 4294967295
-  pub content : r .content ≤ 4294967295
+  pub condition : r .condition ≤ numberLimit
+  pub content : r .content ≤ numberLimit
 
 -- the line of rule k: a number and a rule
 abbrev pub ruleKind : (k : ℕ) → Kind

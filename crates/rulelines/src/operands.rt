@@ -1,10 +1,9 @@
 ghost use mathlib.Core.Path.{_≡_};
 ghost use Rattle.std.specs.Orderings.{Decides};
 ghost use Rattle.rulelines.specs.Operands.{columnA, columnB, Within, meant};
+use fields::numbers::NUMBER_LIMIT;
 use logic::types::Formula;
 use words::Operator;
-
-const LAST_NUMBER: u64 = 4294967295;
 
 // What one of an operator's two numbers is.
 #[derive(Drop, Clone, Copy)]
@@ -50,7 +49,7 @@ fn within(operand: Operand, n: u64) -> bool
         Operand::Signal => n <= 31,
         Operand::Nominal => n >= 1 && n <= 255,
         Operand::Kind => n >= 1 && n <= 15,
-        Operand::Part => n <= LAST_NUMBER,
+        Operand::Part => n <= NUMBER_LIMIT,
     }
 }
 

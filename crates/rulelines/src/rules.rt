@@ -5,12 +5,11 @@ ghost use Rattle.fields.specs.Kinds.{Takes, TakesLine, Refuses, RefusesLine, Sh
 ghost use Rattle.rulelines.specs.Rules.{Formed, Ranged, ruleLine, ruleKind, ruleOf};
 use faults::line::LineFault;
 use fields::lines::first_line;
+use fields::numbers::NUMBER_LIMIT;
 use fields::values::number_under;
 use keys::Key;
 use keys::RuleKey;
 use logic::types::Rule;
-
-const LAST_NUMBER: u64 = 4294967295;
 
 // A rule that was read, and how many bytes its line took.
 #[derive(Drop, Clone, Copy)]
@@ -47,7 +46,7 @@ fn numbers_of(line: &[u8]) -> Option<Numbers>
 fn rule_of(v: Numbers, k: usize) -> Option<Rule>
     ensures { λ r. ⌜ BySome r (Ranged k (v .number) (ruleOf v) → ⊥) (λ u. Ranged k (v .number) (ruleOf v) × (u ≡ ruleOf v)) ⌝ }
 {
-    if v.number != k as u64 || v.condition > LAST_NUMBER || v.content > LAST_NUMBER {
+    if v.number != k as u64 || v.condition > NUMBER_LIMIT || v.content > NUMBER_LIMIT {
         return None;
     }
     Some(Rule {

@@ -10,7 +10,7 @@ use Rattle.std.proofs.shelf.Decimals.{value-decimal}
 use Rattle.logic.specs.declared.types.State.{State}
 use Rattle.fields.specs.Lines.{Small, field}
 use Rattle.fields.specs.Fields.{Stop, Solid}
-use Rattle.fields.proofs.Cuts.{solid-decimal}
+use Rattle.fields.proofs.Parted.{solid-decimal}
 use Rattle.fields.proofs.Numerals.{own}
 use Rattle.traces.specs.Traces.{traceLine, Formed}
 use Rattle.traces.proofs.Showing.{same-state}

@@ -10,7 +10,7 @@ use Rattle.std.specs.shelf.Lists.{All}
 use Rattle.std.proofs.shelf.Lists.{drop-at, drop-drop}
 use Rattle.std.proofs.shelf.Tests.{eq-eqb, ne-eqb, eqb-true, leb-true, ltb-true, le-leb, lt-ltb, and-parts, and-from, cases-eq, cases-bool, both-ways, cond-true, cond-false}
 use Rattle.logic.specs.declared.types.State.{State}
-use Rattle.fields.specs.Lines.{Free, FirstLine, lineLimit}
+use Rattle.fields.specs.Lines.{Free, FirstLine, lineLimit, numberLimit}
 use Rattle.fields.specs.Kinds.{Shows, Fits}
 use Rattle.fields.specs.Runs.{Run}
 use Rattle.traces.specs.Traces.{traceLine, traceKind, Formed, Allowed}
@@ -71,7 +71,7 @@ allowed-true : (i : ℕ) (q : State) → allowed i q ≡ true → Allowed i q
 unfolding allowed
 allowed-true i q e =
     let p1 = and-parts (leb i 256) _ e in
-    let p2 = and-parts (leb (q .signals) 4294967295) _ (p1 .1) in
+    let p2 = and-parts (leb (q .signals) numberLimit) _ (p1 .1) in
     let p3 = and-parts (leb (q .nominal) 255) _ (p2 .1) in
     let p4 = and-parts (leb (q .first .kind) 15) _ (p3 .1) in
     let p5 = and-parts (leb (q .first .target) 256) _ (p4 .1) in

@@ -7,7 +7,7 @@ use lib.ListN.{length, drop}
 use lib.Dec.{eqb, leb, ltb}
 use Rattle.std.specs.Reads.{value}
 use Rattle.logic.specs.declared.types.State.{State}
-use Rattle.fields.specs.Lines.{lineLimit}
+use Rattle.fields.specs.Lines.{lineLimit, numberLimit}
 use Rattle.fields.specs.Kinds.{Fits}
 use Rattle.fields.specs.Runs.{Run}
 use Rattle.traces.specs.Traces.{traceLine, traceKind}
@@ -65,7 +65,7 @@ sameBytes (x ∷ xs) (y ∷ ys) = eqb x y && sameBytes xs ys
 
 unfoldable pub allowed : (i : ℕ) → State → Bool
 allowed i q =
-    leb i 256 && (leb (q .signals) 4294967295 && (leb (q .nominal) 255 && (leb (q .first .kind) 15 &&
+    leb i 256 && (leb (q .signals) numberLimit && (leb (q .nominal) 255 && (leb (q .first .kind) 15 &&
     (leb (q .first .target) 256 && (leb (q .second .kind) 15 && leb (q .second .target) 256)))))
 
 -- the first line is that of the state that it shows, under the next number

@@ -10,7 +10,7 @@ use Rattle.logic.specs.declared.types.Reference.{Reference}
 use Rattle.logic.specs.declared.types.State.{State}
 use Rattle.fields.specs.Lines.{Small}
 use Rattle.fields.specs.Fields.{Solid}
-use Rattle.fields.proofs.Cuts.{solid-decimal}
+use Rattle.fields.proofs.Parted.{solid-decimal}
 use Rattle.fields.proofs.Shown.{shown, Led, Broken, broken, shown-unique}
 use Rattle.fields.specs.Kinds.{ShowsNone}
 use Rattle.traces.specs.Traces.{traceKind, traceLine, Formed}

@@ -7,7 +7,7 @@ use Rattle.std.specs.declared.result.Result.{Result}
 use Rattle.std.specs.declared.result.Result.the-variants.{Ok, Err}
 use Rattle.logic.specs.declared.types.State.{State}
 use Rattle.faults.specs.declared.line.LineFault.{LineFault}
-use Rattle.fields.specs.Lines.{Small, field}
+use Rattle.fields.specs.Lines.{Small, field, numberLimit}
 use Rattle.fields.specs.Kinds.{Kind, Takes, Refuses}
 use Rattle.traces.specs.declared.states.StateLine.{StateLine}
 
@@ -35,7 +35,7 @@ pub record Formed (i : ℕ) (q : State) : Type 0 where
 -- each number is in its range
 pub record Allowed (i : ℕ) (q : State) : Type 0 where
   pub number : i ≤ 256
-  pub signals : q .signals ≤ 4294967295
+  pub signals : q .signals ≤ numberLimit
   pub nominal : q .nominal ≤ 255
   pub firstKind : q .first .kind ≤ 15
   pub firstTarget : q .first .target ≤ 256

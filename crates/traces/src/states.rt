@@ -9,6 +9,7 @@ use crate::numbers::Numbers;
 use crate::numbers::numbers_of;
 use faults::line::LineFault;
 use fields::lines::first_line;
+use fields::numbers::NUMBER_LIMIT;
 use logic::types::Reference;
 use logic::types::State;
 
@@ -19,8 +20,6 @@ const LAST_KIND: u64 = 15;
 const LAST_TARGET: u64 = 256;
 
 const LAST_NOMINAL: u64 = 255;
-
-const LAST_SIGNALS: u64 = 4294967295;
 
 // A state that was read, and how many bytes its line took.
 #[derive(Drop, Clone, Copy)]
@@ -35,7 +34,7 @@ fn state_of(v: Numbers, count: usize) -> Option<State>
 {
     if count as u64 >= LAST_STATE
         || v.state != count as u64 + 1
-        || v.signals > LAST_SIGNALS
+        || v.signals > NUMBER_LIMIT
         || v.nominal > LAST_NOMINAL
     {
         return None;

@@ -2,7 +2,7 @@ use native.Mathlib.Omega.{arith}
 use mathlib.Core.Path.{sym, ap, subst}
 use lib.ListN.{drop}
 use Rattle.fields.specs.Fields.{Stop}
-use Rattle.fields.proofs.Cuts.{stop-at, part-of, first-of}
+use Rattle.fields.proofs.Parted.{stop-at, part-of, first-of}
 use Rattle.fields.proofs.parts.field_at.Needs as need
 
 pub returns-then-from-to : need.returns-then-from-to

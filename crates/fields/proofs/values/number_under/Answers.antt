@@ -2,7 +2,7 @@ use mathlib.Core.Path.{refl}
 use mathlib.Core.List.{[]}
 use lib.ListN.{drop}
 use Rattle.keys.specs.Keys.{keyText}
-use Rattle.fields.proofs.Cuts.{no-part, word-no-number, none-no-number}
+use Rattle.fields.proofs.Parted.{no-part, word-no-number, none-no-number}
 use Rattle.fields.proofs.values.number_under.Needs as need
 
 pub returns-in-None : need.returns-in-None

@@ -4,7 +4,7 @@ use mathlib.Core.List.{[]}
 use lib.ListN.{getD, drop}
 use Rattle.words.specs.Words.{word}
 use Rattle.keys.specs.Keys.{keyText}
-use Rattle.fields.proofs.Cuts.{part-is}
+use Rattle.fields.proofs.Parted.{part-is}
 use Rattle.fields.proofs.Named.{solid-word, word-letter}
 use Rattle.fields.proofs.values.operator_under.Needs as need
 

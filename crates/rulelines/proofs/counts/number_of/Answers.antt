@@ -1,4 +1,4 @@
-use Rattle.fields.proofs.Cuts.{solid-decimal}
+use Rattle.fields.proofs.Parted.{solid-decimal}
 use Rattle.fields.proofs.Shown.{whole, done, next, later, over, broken}
 use Rattle.rulelines.proofs.counts.number_of.Needs as need
 
