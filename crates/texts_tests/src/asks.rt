@@ -12,8 +12,16 @@ pub fn taken(text: &[u8], count: usize, used: usize) -> Result<(), Fail> {
     }
 }
 
+// Each trace line is refused with a number.
+pub fn all_refused(texts: &[&[u8]], count: usize, number: u8) -> Result<(), Fail> {
+    for text in texts {
+        refused(text, count, number)?;
+    }
+    Ok(())
+}
+
 // The trace line is refused with a number, at line 1.
-pub fn refused(text: &[u8], count: usize, number: u8) -> Result<(), Fail> {
+fn refused(text: &[u8], count: usize, number: u8) -> Result<(), Fail> {
     match read_state(text, count) {
         Ok(_) => check(false),
         Err(fault) => {
@@ -21,6 +29,14 @@ pub fn refused(text: &[u8], count: usize, number: u8) -> Result<(), Fail> {
             check_eq(fault.line(), 1)
         }
     }
+}
+
+// Each rules text is refused with a number at a line.
+pub fn all_stopped(texts: &[&[u8]], number: u8, line: usize) -> Result<(), Fail> {
+    for text in texts {
+        stopped(text, number, line)?;
+    }
+    Ok(())
 }
 
 // The rules text is refused with a number at a line, by the layer of lines for 1 to 3 and that of tables for 4 and 5.

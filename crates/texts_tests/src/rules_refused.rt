@@ -1,28 +1,33 @@
 // Rules texts that are refused.
-use crate::asks::stopped;
+use crate::asks::all_stopped;
 use std::test::*;
 
 #[test]
 fn counts() -> Result<(), Fail> {
-    stopped(b"formulas=0\n", 3, 1)?;
-    stopped(b"formulas=65\n", 3, 1)?;
-    stopped(b"formulas=03\n", 2, 1)?;
-    stopped(b"formulas=\n", 2, 1)?;
-    stopped(b"formula=3\n", 2, 1)?;
-    stopped(b"formulas=3 \n", 2, 1)?;
-    stopped(b"\n", 2, 1)?;
-    stopped(
-        b"formulas=3\nf=0 op=signal a=0 b=0\nf=1 op=signal a=1 b=0\nf=2 op=next a=1 b=0\nrules=0\nr=0 when=0 expect=2\n",
+    all_stopped(&[b"formulas=0\n", b"formulas=65\n"], 3, 1)?;
+    all_stopped(
+        &[
+            b"formulas=03\n",
+            b"formulas=\n",
+            b"formula=3\n",
+            b"formulas=3 \n",
+            b"\n",
+        ],
+        2,
+        1,
+    )?;
+    all_stopped(
+        &[
+            b"formulas=3\nf=0 op=signal a=0 b=0\nf=1 op=signal a=1 b=0\nf=2 op=next a=1 b=0\nrules=0\n",
+            b"formulas=3\nf=0 op=signal a=0 b=0\nf=1 op=signal a=1 b=0\nf=2 op=next a=1 b=0\nrules=17\n",
+        ],
         3,
         5,
     )?;
-    stopped(
-        b"formulas=3\nf=0 op=signal a=0 b=0\nf=1 op=signal a=1 b=0\nf=2 op=next a=1 b=0\nrules=17\nr=0 when=0 expect=2\n",
-        3,
-        5,
-    )?;
-    stopped(
-        b"formulas=3\nf=0 op=signal a=0 b=0\nf=1 op=signal a=1 b=0\nf=2 op=next a=1 b=0\nrule=1\nr=0 when=0 expect=2\n",
+    all_stopped(
+        &[
+            b"formulas=3\nf=0 op=signal a=0 b=0\nf=1 op=signal a=1 b=0\nf=2 op=next a=1 b=0\nrule=1\n",
+        ],
         2,
         5,
     )
@@ -30,38 +35,26 @@ fn counts() -> Result<(), Fail> {
 
 #[test]
 fn formula_forms() -> Result<(), Fail> {
-    stopped(
-        b"formulas=3\nf=0 op=signals a=0 b=0\nf=1 op=signal a=1 b=0\nf=2 op=next a=1 b=0\nrules=1\nr=0 when=0 expect=2\n",
+    all_stopped(
+        &[
+            b"formulas=3\nf=0 op=signals a=0 b=0\n",
+            b"formulas=3\nf=0 op= a=0 b=0\n",
+            b"formulas=3\nf=0 op=7 a=0 b=0\n",
+        ],
         2,
         2,
     )?;
-    stopped(
-        b"formulas=3\nf=0 op= a=0 b=0\nf=1 op=signal a=1 b=0\nf=2 op=next a=1 b=0\nrules=1\nr=0 when=0 expect=2\n",
-        2,
-        2,
-    )?;
-    stopped(
-        b"formulas=3\nf=0 op=7 a=0 b=0\nf=1 op=signal a=1 b=0\nf=2 op=next a=1 b=0\nrules=1\nr=0 when=0 expect=2\n",
-        2,
-        2,
-    )?;
-    stopped(
-        b"formulas=3\nf=0 op=signal a=0 b=0\nf=1 a=1 op=signal b=0\nf=2 op=next a=1 b=0\nrules=1\nr=0 when=0 expect=2\n",
+    all_stopped(
+        &[
+            b"formulas=3\nf=0 op=signal a=0 b=0\nf=1 a=1 op=signal b=0\n",
+            b"formulas=3\nf=0 op=signal a=0 b=0\nf=1 op=signal a=1\n",
+            b"formulas=3\nf=0 op=signal a=0 b=0\nf=9 op=signal a=1 b=0 \n",
+        ],
         2,
         3,
     )?;
-    stopped(
-        b"formulas=3\nf=0 op=signal a=0 b=0\nf=1 op=signal a=1\nf=2 op=next a=1 b=0\nrules=1\nr=0 when=0 expect=2\n",
-        2,
-        3,
-    )?;
-    stopped(
-        b"formulas=3\nf=0 op=signal a=0 b=0\nf=9 op=signal a=1 b=0 \nf=2 op=next a=1 b=0\nrules=1\nr=0 when=0 expect=2\n",
-        2,
-        3,
-    )?;
-    stopped(
-        b"formulas=3\nf=0 op=signal a=0 b=0\nf=1 op=signal a=1 b=0\nf=2 op=Next a=1 b=0\nrules=1\nr=0 when=0 expect=2\n",
+    all_stopped(
+        &[b"formulas=3\nf=0 op=signal a=0 b=0\nf=1 op=signal a=1 b=0\nf=2 op=Next a=1 b=0\n"],
         2,
         4,
     )
@@ -69,53 +62,31 @@ fn formula_forms() -> Result<(), Fail> {
 
 #[test]
 fn formula_ranges() -> Result<(), Fail> {
-    stopped(
-        b"formulas=3\nf=1 op=signal a=0 b=0\nf=1 op=signal a=1 b=0\nf=2 op=next a=1 b=0\nrules=1\nr=0 when=0 expect=2\n",
+    all_stopped(
+        &[
+            b"formulas=3\nf=1 op=signal a=0 b=0\n",
+            b"formulas=3\nf=0 op=signal a=32 b=0\n",
+            b"formulas=3\nf=0 op=signal a=0 b=1\n",
+            b"formulas=3\nf=0 op=true a=1 b=0\n",
+        ],
         3,
         2,
     )?;
-    stopped(
-        b"formulas=3\nf=0 op=signal a=32 b=0\nf=1 op=signal a=1 b=0\nf=2 op=next a=1 b=0\nrules=1\nr=0 when=0 expect=2\n",
-        3,
-        2,
-    )?;
-    stopped(
-        b"formulas=3\nf=0 op=signal a=0 b=1\nf=1 op=signal a=1 b=0\nf=2 op=next a=1 b=0\nrules=1\nr=0 when=0 expect=2\n",
-        3,
-        2,
-    )?;
-    stopped(
-        b"formulas=3\nf=0 op=true a=1 b=0\nf=1 op=signal a=1 b=0\nf=2 op=next a=1 b=0\nrules=1\nr=0 when=0 expect=2\n",
-        3,
-        2,
-    )?;
-    stopped(
-        b"formulas=3\nf=0 op=signal a=0 b=0\nf=1 op=mark a=0 b=0\nf=2 op=next a=1 b=0\nrules=1\nr=0 when=0 expect=2\n",
+    all_stopped(
+        &[
+            b"formulas=3\nf=0 op=signal a=0 b=0\nf=1 op=mark a=0 b=0\n",
+            b"formulas=3\nf=0 op=signal a=0 b=0\nf=1 op=mark a=256 b=0\n",
+            b"formulas=3\nf=0 op=signal a=0 b=0\nf=1 op=link a=16 b=0\n",
+        ],
         3,
         3,
     )?;
-    stopped(
-        b"formulas=3\nf=0 op=signal a=0 b=0\nf=1 op=mark a=256 b=0\nf=2 op=next a=1 b=0\nrules=1\nr=0 when=0 expect=2\n",
-        3,
-        3,
-    )?;
-    stopped(
-        b"formulas=3\nf=0 op=signal a=0 b=0\nf=1 op=link a=16 b=0\nf=2 op=next a=1 b=0\nrules=1\nr=0 when=0 expect=2\n",
-        3,
-        3,
-    )?;
-    stopped(
-        b"formulas=3\nf=0 op=signal a=0 b=0\nf=1 op=signal a=1 b=0\nf=2 op=some a=0 b=0\nrules=1\nr=0 when=0 expect=2\n",
-        3,
-        4,
-    )?;
-    stopped(
-        b"formulas=3\nf=0 op=signal a=0 b=0\nf=1 op=signal a=1 b=0\nf=2 op=next a=4294967296 b=0\nrules=1\nr=0 when=0 expect=2\n",
-        3,
-        4,
-    )?;
-    stopped(
-        b"formulas=3\nf=0 op=signal a=0 b=0\nf=1 op=signal a=1 b=0\nf=2 op=next a=2 b=1\nrules=1\nr=0 when=0 expect=2\n",
+    all_stopped(
+        &[
+            b"formulas=3\nf=0 op=signal a=0 b=0\nf=1 op=signal a=1 b=0\nf=2 op=some a=0 b=0\n",
+            b"formulas=3\nf=0 op=signal a=0 b=0\nf=1 op=signal a=1 b=0\nf=2 op=next a=4294967296 b=0\n",
+            b"formulas=3\nf=0 op=signal a=0 b=0\nf=1 op=signal a=1 b=0\nf=2 op=next a=2 b=1\n",
+        ],
         3,
         4,
     )
@@ -124,23 +95,17 @@ fn formula_ranges() -> Result<(), Fail> {
 // A part is below its formula.
 #[test]
 fn parts() -> Result<(), Fail> {
-    stopped(
-        b"formulas=3\nf=0 op=not a=0 b=0\nf=1 op=signal a=1 b=0\nf=2 op=next a=1 b=0\nrules=1\nr=0 when=0 expect=2\n",
-        4,
-        2,
-    )?;
-    stopped(
-        b"formulas=3\nf=0 op=signal a=0 b=0\nf=1 op=and a=0 b=1\nf=2 op=next a=1 b=0\nrules=1\nr=0 when=0 expect=2\n",
+    all_stopped(&[b"formulas=3\nf=0 op=not a=0 b=0\n"], 4, 2)?;
+    all_stopped(
+        &[b"formulas=3\nf=0 op=signal a=0 b=0\nf=1 op=and a=0 b=1\n"],
         4,
         3,
     )?;
-    stopped(
-        b"formulas=3\nf=0 op=signal a=0 b=0\nf=1 op=signal a=1 b=0\nf=2 op=next a=2 b=0\nrules=1\nr=0 when=0 expect=2\n",
-        4,
-        4,
-    )?;
-    stopped(
-        b"formulas=3\nf=0 op=signal a=0 b=0\nf=1 op=signal a=1 b=0\nf=2 op=until a=4294967295 b=0\nrules=1\nr=0 when=0 expect=2\n",
+    all_stopped(
+        &[
+            b"formulas=3\nf=0 op=signal a=0 b=0\nf=1 op=signal a=1 b=0\nf=2 op=next a=2 b=0\n",
+            b"formulas=3\nf=0 op=signal a=0 b=0\nf=1 op=signal a=1 b=0\nf=2 op=until a=4294967295 b=0\n",
+        ],
         4,
         4,
     )
@@ -148,38 +113,39 @@ fn parts() -> Result<(), Fail> {
 
 #[test]
 fn rule_lines() -> Result<(), Fail> {
-    stopped(
-        b"formulas=3\nf=0 op=signal a=0 b=0\nf=1 op=signal a=1 b=0\nf=2 op=next a=1 b=0\nrules=1\nr=1 when=0 expect=2\n",
+    all_stopped(
+        &[
+            b"formulas=3\nf=0 op=signal a=0 b=0\nf=1 op=signal a=1 b=0\nf=2 op=next a=1 b=0\nrules=1\nr=1 when=0 expect=2\n",
+            b"formulas=3\nf=0 op=signal a=0 b=0\nf=1 op=signal a=1 b=0\nf=2 op=next a=1 b=0\nrules=1\nr=0 when=0 expect=4294967296\n",
+        ],
         3,
         6,
     )?;
-    stopped(
-        b"formulas=3\nf=0 op=signal a=0 b=0\nf=1 op=signal a=1 b=0\nf=2 op=next a=1 b=0\nrules=1\nr=0 when=0 expect=4294967296\n",
-        3,
-        6,
-    )?;
-    stopped(
-        b"formulas=3\nf=0 op=signal a=0 b=0\nf=1 op=signal a=1 b=0\nf=2 op=next a=1 b=0\nrules=1\nr=0 expect=2 when=0\n",
+    all_stopped(
+        &[
+            b"formulas=3\nf=0 op=signal a=0 b=0\nf=1 op=signal a=1 b=0\nf=2 op=next a=1 b=0\nrules=1\nr=0 expect=2 when=0\n",
+        ],
         2,
         6,
     )?;
-    stopped(
-        b"formulas=3\nf=0 op=signal a=0 b=0\nf=1 op=signal a=1 b=0\nf=2 op=next a=1 b=0\nrules=1\nr=0 when=0 expect=3\n",
+    all_stopped(
+        &[
+            b"formulas=3\nf=0 op=signal a=0 b=0\nf=1 op=signal a=1 b=0\nf=2 op=next a=1 b=0\nrules=1\nr=0 when=0 expect=3\n",
+            b"formulas=3\nf=0 op=signal a=0 b=0\nf=1 op=signal a=1 b=0\nf=2 op=next a=1 b=0\nrules=1\nr=0 when=64 expect=2\n",
+        ],
         4,
         6,
-    )?;
-    stopped(
-        b"formulas=3\nf=0 op=signal a=0 b=0\nf=1 op=signal a=1 b=0\nf=2 op=next a=1 b=0\nrules=1\nr=0 when=64 expect=2\n",
-        4,
-        6,
-    )?;
-    stopped(
-        b"formulas=3\nf=0 op=signal a=0 b=0\nf=1 op=var a=0 b=0\nf=2 op=next a=1 b=0\nrules=1\nr=0 when=0 expect=2\n",
-        5,
-        6,
-    )?;
-    stopped(
-        b"formulas=3\nf=0 op=signal a=0 b=0\nf=1 op=link a=1 b=0\nf=2 op=bind a=1 b=0\nrules=1\nr=0 when=0 expect=1\n",
+    )
+}
+
+// A rule may not name a formula that speaks of an unbound variable.
+#[test]
+fn loose_rules() -> Result<(), Fail> {
+    all_stopped(
+        &[
+            b"formulas=3\nf=0 op=signal a=0 b=0\nf=1 op=var a=0 b=0\nf=2 op=next a=1 b=0\nrules=1\nr=0 when=0 expect=2\n",
+            b"formulas=3\nf=0 op=signal a=0 b=0\nf=1 op=link a=1 b=0\nf=2 op=bind a=1 b=0\nrules=1\nr=0 when=0 expect=1\n",
+        ],
         5,
         6,
     )

@@ -1,5 +1,5 @@
 // Trace lines.
-use crate::asks::refused;
+use crate::asks::all_refused;
 use crate::asks::taken;
 use std::test::*;
 
@@ -18,30 +18,22 @@ fn good_lines() -> Result<(), Fail> {
 // No line end within the first 81 bytes.
 #[test]
 fn torn_lines() -> Result<(), Fail> {
-    refused(b"", 0, 1)?;
-    refused(b"s=1 signals=1 mark=0 ka=0 ta=0 kb=0 tb=0", 0, 1)?;
-    refused(
-        b"xxxxxxxxxxxxxxxxxxxxxxxxxxxxxxxxxxxxxxxxxxxxxxxxxxxxxxxxxxxxxxxxxxxxxxxxxxxxxxxxx\n",
+    all_refused(
+        &[
+            b"",
+            b"s=1 signals=1 mark=0 ka=0 ta=0 kb=0 tb=0",
+            b"xxxxxxxxxxxxxxxxxxxxxxxxxxxxxxxxxxxxxxxxxxxxxxxxxxxxxxxxxxxxxxxxxxxxxxxxxxxxxxxxx\n",
+            b"xxxxxxxxxxxxxxxxxxxxxxxxxxxxxxxxxxxxxxxxxxxxxxxxxxxxxxxxxxxxxxxxxxxxxxxxxxxxxxxxxx\n",
+            b"s=1 signals=1 mark=0 ka=0 ta=0 kb=0 tb=0                                         \n",
+        ],
         0,
         1,
     )?;
-    refused(
-        b"xxxxxxxxxxxxxxxxxxxxxxxxxxxxxxxxxxxxxxxxxxxxxxxxxxxxxxxxxxxxxxxxxxxxxxxxxxxxxxxxxx\n",
-        0,
-        1,
-    )?;
-    refused(
-        b"xxxxxxxxxxxxxxxxxxxxxxxxxxxxxxxxxxxxxxxxxxxxxxxxxxxxxxxxxxxxxxxxxxxxxxxxxxxxxxxx\n",
-        0,
-        2,
-    )?;
-    refused(
-        b"s=1 signals=1 mark=0 ka=0 ta=0 kb=0 tb=0                                         \n",
-        0,
-        1,
-    )?;
-    refused(
-        b"s=1 signals=1 mark=0 ka=0 ta=0 kb=0 tb=0                                        \n",
+    all_refused(
+        &[
+            b"xxxxxxxxxxxxxxxxxxxxxxxxxxxxxxxxxxxxxxxxxxxxxxxxxxxxxxxxxxxxxxxxxxxxxxxxxxxxxxxx\n",
+            b"s=1 signals=1 mark=0 ka=0 ta=0 kb=0 tb=0                                        \n",
+        ],
         0,
         2,
     )
@@ -49,35 +41,49 @@ fn torn_lines() -> Result<(), Fail> {
 
 #[test]
 fn spaces_and_ends() -> Result<(), Fail> {
-    refused(b"\n", 0, 2)?;
-    refused(b"s=1 signals=1 mark=0 ka=0 ta=0 kb=0 tb=0\r\n", 0, 2)?;
-    refused(b"s=1 signals=1  mark=0 ka=0 ta=0 kb=0 tb=0\n", 0, 2)?;
-    refused(b" s=1 signals=1 mark=0 ka=0 ta=0 kb=0 tb=0\n", 0, 2)?;
-    refused(b"s=1 signals=1 mark=0 ka=0 ta=0 kb=0 tb=0 \n", 0, 2)?;
-    refused(b"s=1 signals=1\tmark=0 ka=0 ta=0 kb=0 tb=0\n", 0, 2)
+    all_refused(
+        &[
+            b"\n",
+            b"s=1 signals=1 mark=0 ka=0 ta=0 kb=0 tb=0\r\n",
+            b"s=1 signals=1  mark=0 ka=0 ta=0 kb=0 tb=0\n",
+            b" s=1 signals=1 mark=0 ka=0 ta=0 kb=0 tb=0\n",
+            b"s=1 signals=1 mark=0 ka=0 ta=0 kb=0 tb=0 \n",
+            b"s=1 signals=1\tmark=0 ka=0 ta=0 kb=0 tb=0\n",
+        ],
+        0,
+        2,
+    )
 }
 
 #[test]
 fn keys() -> Result<(), Fail> {
-    refused(b"s=1 signals=1 ka=0 ta=0 kb=0 tb=0\n", 0, 2)?;
-    refused(b"s=1 signals=1 mark=0 mark=0 ka=0 ta=0 kb=0 tb=0\n", 0, 2)?;
-    refused(b"s=1 signals=1 mark=0 ta=0 ka=0 kb=0 tb=0\n", 0, 2)?;
-    refused(b"s=1 signal=1 mark=0 ka=0 ta=0 kb=0 tb=0\n", 0, 2)?;
-    refused(b"s=1 signals=1 mark=0 ka=0 ta=0 kB=0 tb=0\n", 0, 2)?;
-    refused(b"s = 1 signals = 1 mark=0 ka=0 ta=0 kb=0 tb=0\n", 0, 2)?;
-    refused(b"s=1 signals=1 mark=0 ka=0 ta=0 kb=0\n", 0, 2)
+    all_refused(
+        &[
+            b"s=1 signals=1 ka=0 ta=0 kb=0 tb=0\n",
+            b"s=1 signals=1 mark=0 mark=0 ka=0 ta=0 kb=0 tb=0\n",
+            b"s=1 signals=1 mark=0 ta=0 ka=0 kb=0 tb=0\n",
+            b"s=1 signal=1 mark=0 ka=0 ta=0 kb=0 tb=0\n",
+            b"s=1 signals=1 mark=0 ka=0 ta=0 kB=0 tb=0\n",
+            b"s = 1 signals = 1 mark=0 ka=0 ta=0 kb=0 tb=0\n",
+            b"s=1 signals=1 mark=0 ka=0 ta=0 kb=0\n",
+        ],
+        0,
+        2,
+    )
 }
 
 #[test]
 fn number_forms() -> Result<(), Fail> {
-    refused(b"s=1 signals=+1 mark=0 ka=0 ta=0 kb=0 tb=0\n", 0, 2)?;
-    refused(b"s=1 signals=-1 mark=0 ka=0 ta=0 kb=0 tb=0\n", 0, 2)?;
-    refused(b"s=1 signals=01 mark=0 ka=0 ta=0 kb=0 tb=0\n", 0, 2)?;
-    refused(b"s=1 signals=00 mark=0 ka=0 ta=0 kb=0 tb=0\n", 0, 2)?;
-    refused(b"s=1 signals= mark=0 ka=0 ta=0 kb=0 tb=0\n", 0, 2)?;
-    refused(b"s=1 signals=1x mark=0 ka=0 ta=0 kb=0 tb=0\n", 0, 2)?;
-    refused(
-        b"s=1 signals=10000000000 mark=0 ka=0 ta=0 kb=0 tb=0\n",
+    all_refused(
+        &[
+            b"s=1 signals=+1 mark=0 ka=0 ta=0 kb=0 tb=0\n",
+            b"s=1 signals=-1 mark=0 ka=0 ta=0 kb=0 tb=0\n",
+            b"s=1 signals=01 mark=0 ka=0 ta=0 kb=0 tb=0\n",
+            b"s=1 signals=00 mark=0 ka=0 ta=0 kb=0 tb=0\n",
+            b"s=1 signals= mark=0 ka=0 ta=0 kb=0 tb=0\n",
+            b"s=1 signals=1x mark=0 ka=0 ta=0 kb=0 tb=0\n",
+            b"s=1 signals=10000000000 mark=0 ka=0 ta=0 kb=0 tb=0\n",
+        ],
         0,
         2,
     )
@@ -85,26 +91,38 @@ fn number_forms() -> Result<(), Fail> {
 
 #[test]
 fn ranges() -> Result<(), Fail> {
-    refused(b"s=1 signals=4294967296 mark=0 ka=0 ta=0 kb=0 tb=0\n", 0, 3)?;
-    refused(b"s=1 signals=9999999999 mark=0 ka=0 ta=0 kb=0 tb=0\n", 0, 3)?;
-    refused(b"s=1 signals=1 mark=256 ka=0 ta=0 kb=0 tb=0\n", 0, 3)?;
-    refused(b"s=1 signals=1 mark=0 ka=16 ta=0 kb=0 tb=0\n", 0, 3)?;
-    refused(b"s=1 signals=1 mark=0 ka=0 ta=0 kb=0 tb=257\n", 0, 3)?;
-    refused(b"s=1 signals=1 mark=0 ka=0 ta=0 kb=0 tb=0\n", 1, 3)?;
-    refused(b"s=0 signals=0 mark=0 ka=0 ta=0 kb=0 tb=0\n", 0, 3)?;
-    refused(b"s=257 signals=257 mark=0 ka=0 ta=0 kb=0 tb=0\n", 256, 3)
+    all_refused(
+        &[
+            b"s=1 signals=4294967296 mark=0 ka=0 ta=0 kb=0 tb=0\n",
+            b"s=1 signals=9999999999 mark=0 ka=0 ta=0 kb=0 tb=0\n",
+            b"s=1 signals=1 mark=256 ka=0 ta=0 kb=0 tb=0\n",
+            b"s=1 signals=1 mark=0 ka=16 ta=0 kb=0 tb=0\n",
+            b"s=1 signals=1 mark=0 ka=0 ta=0 kb=0 tb=257\n",
+            b"s=0 signals=0 mark=0 ka=0 ta=0 kb=0 tb=0\n",
+        ],
+        0,
+        3,
+    )?;
+    all_refused(&[b"s=1 signals=1 mark=0 ka=0 ta=0 kb=0 tb=0\n"], 1, 3)?;
+    all_refused(&[b"s=257 signals=257 mark=0 ka=0 ta=0 kb=0 tb=0\n"], 256, 3)
 }
 
 #[test]
 fn form_before_range() -> Result<(), Fail> {
-    refused(b"s=9 signals=1 mark=300 ka=0 ta=0 kb=0 tb=x\n", 0, 2)?;
-    refused(b"s=9 signals=1 mark=300 ka=0 ta=0 kb=0 tb=0\n", 0, 3)
+    all_refused(&[b"s=9 signals=1 mark=300 ka=0 ta=0 kb=0 tb=x\n"], 0, 2)?;
+    all_refused(&[b"s=9 signals=1 mark=300 ka=0 ta=0 kb=0 tb=0\n"], 0, 3)
 }
 
 #[test]
 fn odd_bytes() -> Result<(), Fail> {
-    refused(b"s=1 signals=1 mark=\0 ka=0 ta=0 kb=0 tb=0\n", 0, 2)?;
-    refused(b"s=1 signals=1 mark=\xff ka=0 ta=0 kb=0 tb=0\n", 0, 2)?;
-    refused(b"\0\n", 0, 2)?;
-    refused(b"\xc3\xa9\n", 0, 2)
+    all_refused(
+        &[
+            b"s=1 signals=1 mark=\0 ka=0 ta=0 kb=0 tb=0\n",
+            b"s=1 signals=1 mark=\xff ka=0 ta=0 kb=0 tb=0\n",
+            b"\0\n",
+            b"\xc3\xa9\n",
+        ],
+        0,
+        2,
+    )
 }
