@@ -2,5 +2,5 @@
 // either of them whole.
 pub mod layer;
 pub mod line;
-pub mod table;
 pub mod read;
+pub mod table;

@@ -1,6 +1,7 @@
 pub mod Numerals
 pub mod Ends
-pub mod Cuts
+pub mod Parted
 pub mod Named
 pub mod Shown
 pub mod Judged
+pub mod Follow

@@ -1,6 +1,6 @@
-use Prim.Native.Nat.{ℕ, _≤_}
+use Prim.Native.Nat.{ℕ, _+_, _*_, _≤_}
 use mathlib.Core.List.{List, [], _∷_}
-use mathlib.Core.Path.{_≡_, refl}
+use mathlib.Core.Path.{_≡_, refl, sym, _∙_, ap}
 use mathlib.Core.Bool.{Bool, true, false, cond}
 use native.Mathlib.Omega.{arith}
 use lib.ListN.{getD}
@@ -56,3 +56,48 @@ word-letter op.Variable = omega arith
 word-letter op.Reference = omega arith
 word-letter op.Bind = omega arith
 word-letter op.Some = omega arith
+
+-- a word as one number, from which the operator is found again
+number : List ℕ → ℕ
+number [] = 0
+number (b ∷ bs) = b + 256 * number bs
+
+found : ℕ → Operator
+found n =
+    cond (eqb n 1702195828) op.True (
+    cond (eqb n 119165719898483) op.Signal (
+    cond (eqb n 1802658157) op.Nominal (
+    cond (eqb n 7630702) op.Not (
+    cond (eqb n 6581857) op.And (
+    cond (eqb n 29295) op.Or (
+    cond (eqb n 1954047342) op.Next (
+    cond (eqb n 1986359920) op.Previous (
+    cond (eqb n 465625706101) op.Until (
+    cond (eqb n 435459877235) op.Since (
+    cond (eqb n 29793) op.At (
+    cond (eqb n 7496054) op.Variable (
+    cond (eqb n 1802398060) op.Reference (
+    cond (eqb n 1684957538) op.Bind (
+    op.Some))))))))))))))
+
+found-word : (o : Operator) → found (number (word o)) ≡ o
+unfolding number found
+found-word op.True = refl
+found-word op.Signal = refl
+found-word op.Nominal = refl
+found-word op.Not = refl
+found-word op.And = refl
+found-word op.Or = refl
+found-word op.Next = refl
+found-word op.Previous = refl
+found-word op.Until = refl
+found-word op.Since = refl
+found-word op.At = refl
+found-word op.Variable = refl
+found-word op.Reference = refl
+found-word op.Bind = refl
+found-word op.Some = refl
+
+-- no two operators have one word
+pub one-word : (o p : Operator) → word o ≡ word p → o ≡ p
+one-word o p e = sym (found-word o) ∙ ap (λ z. found (number z)) e ∙ found-word p

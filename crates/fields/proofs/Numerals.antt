@@ -34,10 +34,11 @@ lead-decimal (suc n) h e = let f : 48 < getD (decimal (suc n)) 0 0 = first-decim
 
 form-decimal : (n : ℕ) → n < 10 ^ 10 → Form (decimal n)
 form-decimal n h = record {
-    digits = digits-decimal own n (small n h);
-    some = decimal-some n (small n h);
-    few = length-decimal-le 10 n (omega arith) h (small n h);
-    lead = lead-decimal n h }
+  digits = digits-decimal own n (small n h);
+  some = decimal-some n (small n h);
+  few = length-decimal-le 10 n (omega arith) h (small n h);
+  lead = lead-decimal n h;
+}
 
 pub number-form : (t : List ℕ) (n : ℕ) → Number t n → Form t
 number-form t n h = subst Form (sym (h .1)) (form-decimal n (h .0))

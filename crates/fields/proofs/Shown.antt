@@ -5,9 +5,13 @@ use native.Mathlib.Omega.{arith}
 use lib.ListN.{length, drop, length-drop}
 use Rattle.std.specs.shelf.Lists.{All}
 use Rattle.std.proofs.shelf.Lists.{drop-all, append-cancel-left}
-use Rattle.fields.specs.Fields.{Stop, Solid, Took}
-use Rattle.fields.proofs.Ends.{cut-unique}
-use Rattle.fields.proofs.Cuts.{step}
+use Rattle.std.specs.Written.{decimal}
+use Rattle.words.specs.Words.{word}
+use Rattle.words.specs.declared.Operator.{Operator}
+use Rattle.fields.specs.Lines.{Small}
+use Rattle.fields.specs.Fields.{Stop, Solid, Took, NoNumber, NoOperator}
+use Rattle.fields.proofs.Ends.{one-parting}
+use Rattle.fields.proofs.Parted.{step}
 
 -- keys, each with the text under it
 abbrev pub shown : List (List ℕ) → List (List ℕ) → List ℕ
@@ -66,6 +70,12 @@ shown-unique [] [] (u ∷ us) m n l p q e = absurd (omega arith)
 shown-unique (k ∷ ks) [] us m n l p q e = absurd (omega arith)
 shown-unique (k ∷ ks) (t ∷ ts) [] m n l p q e = absurd (omega arith)
 shown-unique (k ∷ ks) (t ∷ ts) (u ∷ us) m n l p q e =
-    let d = cut-unique 32 t u (shown ks ts) (shown ks us) (p .0) (q .0) (stop-shown ks ts l) (stop-shown ks us l) (append-cancel-left k (t ++ shown ks ts) (u ++ shown ks us) e) in
+    let d = one-parting 32 t u (shown ks ts) (shown ks us) (p .0) (q .0) (stop-shown ks ts l) (stop-shown ks us l) (append-cancel-left k (t ++ shown ks ts) (u ++ shown ks us) e) in
     let i = shown-unique ks ts us (omega arith) (omega arith) (led ks l) (p .1) (q .1) (d .1) in
     cc (d .0, i)
+
+pub missing : {line : List ℕ} {at n : ℕ} {k : List ℕ} {ks ts : List (List ℕ)} → NoNumber line at k → Small n → Broken line at (k ∷ ks) (decimal n ∷ ts)
+missing {n = n} {ks = ks} {ts = ts} x h = here (λ s. x n (shown ks ts) h s)
+
+pub missing-word : {line : List ℕ} {at : ℕ} {k : List ℕ} {ks ts : List (List ℕ)} → NoOperator line at k → (o : Operator) → Broken line at (k ∷ ks) (word o ∷ ts)
+missing-word {ks = ks} {ts = ts} x o = here (λ s. x o (shown ks ts) s)

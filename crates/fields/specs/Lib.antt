@@ -1,3 +1,4 @@
 pub mod Lines
 pub mod Fields
 pub mod Kinds
+pub mod Runs

@@ -17,6 +17,10 @@ Small n = n < 10 ^ 10
 abbrev pub Number : List ℕ → ℕ → Type 0
 Number text n = Small n × (text ≡ decimal n)
 
+-- a number above this one is out of range, whatever it stands for
+abbrev pub numberLimit : ℕ
+numberLimit = 4294967295
+
 -- a key, a number, and what follows
 abbrev pub field : List ℕ → ℕ → List ℕ → List ℕ
 field key n rest = key ++ (decimal n ++ rest)

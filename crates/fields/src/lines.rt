@@ -7,6 +7,7 @@ ghost use Rattle.fields.specs.Lines.{FirstLine, Torn, LineEnd};
 use faults::line::LineFault;
 
 const LINE_END: u8 = b'\n';
+
 const LINE_LIMIT: usize = 80;
 
 // The place of the byte that ends the first line.

@@ -2,7 +2,11 @@ ghost use Prim.Native.Nat.{ℕ};
 ghost use Rattle.std.specs.Options.{Cases as BySome};
 ghost use Rattle.fields.specs.Lines.{Number};
 
+// A number above this one is out of range, whatever it stands for.
+pub const NUMBER_LIMIT: u64 = 4294967295;
+
 const ZERO: u8 = b'0';
+
 const NINE: u8 = b'9';
 
 // The number that a text shows.

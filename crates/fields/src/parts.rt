@@ -8,7 +8,9 @@ ghost use Rattle.fields.specs.Fields.{SolidFrom, Stands};
 use keys::Key;
 
 const SPACE: u8 = b' ';
+
 const ZERO: u8 = b'0';
+
 const NINE: u8 = b'9';
 
 // What stands in a line from a place up to the next space or the line's end: a word, or the text of a number, with its

@@ -30,7 +30,10 @@ pub fn number_under(line: &[u8], at: usize, key: Key) -> Option<ReadNumber>
     let from = after_key(line, at, key)?;
     match field_at(line, from) {
         Field::Number(text, place) => match number(text) {
-            Some(number) => Some(ReadNumber { number, to: place + text.len() }),
+            Some(number) => Some(ReadNumber {
+                number,
+                to: place + text.len(),
+            }),
             None => None,
         },
         Field::Word(_, _) => None,
@@ -45,7 +48,10 @@ pub fn operator_under(line: &[u8], at: usize, key: Key) -> Option<ReadOperator>
     let from = after_key(line, at, key)?;
     match field_at(line, from) {
         Field::Word(text, place) => match words::named(text) {
-            Some(operator) => Some(ReadOperator { operator, to: place + text.len() }),
+            Some(operator) => Some(ReadOperator {
+                operator,
+                to: place + text.len(),
+            }),
             None => None,
         },
         Field::Number(_, _) => None,

@@ -6,26 +6,47 @@ ghost use Rattle.std.specs.Options.{Cases as BySome};
 ghost use Rattle.keys.specs.Keys.{countText, traceText, formulaText, ruleText, keyText};
 
 const SPACE: u8 = b' ';
+
 const EQUALS: u8 = b'=';
+
 const A: u8 = b'a';
+
 const B: u8 = b'b';
+
 const C: u8 = b'c';
+
 const E: u8 = b'e';
+
 const F: u8 = b'f';
+
 const G: u8 = b'g';
+
 const H: u8 = b'h';
+
 const I: u8 = b'i';
+
 const K: u8 = b'k';
+
 const L: u8 = b'l';
+
 const M: u8 = b'm';
+
 const N: u8 = b'n';
+
 const O: u8 = b'o';
+
 const P: u8 = b'p';
+
 const R: u8 = b'r';
+
 const S: u8 = b's';
+
 const T: u8 = b't';
+
 const U: u8 = b'u';
+
 const W: u8 = b'w';
+
 const X: u8 = b'x';
 
 // The keys of the lines that count formulas and rules.

@@ -2,7 +2,7 @@ use native.Mathlib.Omega.{arith}
 use mathlib.Core.Path.{sym, _∙_}
 use Rattle.keys.specs.Keys.{keyText}
 use Rattle.std.proofs.shelf.Lists.{drop-all}
-use Rattle.fields.proofs.Cuts.{place-of, no-key, key-some}
+use Rattle.fields.proofs.Parted.{place-of, no-key, key-some}
 use Rattle.fields.proofs.parts.after_key.Needs as need
 
 pub returns-then-at-line : need.returns-then-at-line

@@ -22,7 +22,7 @@ use Rattle.keys.specs.declared.Key.the-variants as key
 use Rattle.keys.specs.Keys.{keyText}
 use Rattle.fields.specs.Lines as lines
 use Rattle.fields.specs.Fields.{Stop, Solid, SolidFrom, Part, Digit, Took, NoNumber}
-use Rattle.fields.proofs.Ends.{cut-unique}
+use Rattle.fields.proofs.Ends.{one-parting}
 use Rattle.fields.proofs.Numerals.{Form, number-form}
 
 pub solid-decimal : (n : ℕ) → n < 10 ^ 10 → Solid (decimal n)
@@ -33,8 +33,8 @@ solid-decimal n h =
 pub stop-at : (line : List ℕ) (from to : ℕ) → SolidFrom line from to → Stop (drop to line)
 stop-at line from to h =
     ⊎-elim (λ l. subst Stop (sym (drop-more line to 0 l)) (h .stop l))
-           (λ l. subst Stop (sym (drop-all to line l)) tt)
-           (cases-lt to (length line))
+    (λ l. subst Stop (sym (drop-all to line l)) tt)
+    (cases-lt to (length line))
 
 pub part-of : (line : List ℕ) (at to : ℕ) → SolidFrom line at to → Part line at (take (to - at) (drop at line)) at
 part-of line at to h =
@@ -46,9 +46,10 @@ part-of line at to h =
       within = omega (arith, h .high);
       parted = sym (take-append-drop (to - at) (drop at line)) ∙ ap (λ z. take (to - at) (drop at line) ++ z) (d ∙ ap (λ z. drop z line) (sym w));
       solid = all-from-getD (λ b. b ≡ 32 → ⊥) (take (to - at) (drop at line)) 0
-        (λ i k e. h .solid (at + i) (omega arith) (omega (arith, h .low))
+          (λ i k e. h .solid (at + i) (omega arith) (omega (arith, h .low))
           (sym (getD-drop at line i 0) ∙ sym (getD-take (to - at) (drop at line) i 0 (omega arith)) ∙ e));
-      stops = subst (λ z. Stop (drop z line)) (sym w) (stop-at line at to h) }
+      stops = subst (λ z. Stop (drop z line)) (sym w) (stop-at line at to h);
+    }
 
 pub first-of : (line : List ℕ) (at to : ℕ) → at < to → getD (take (to - at) (drop at line)) 0 0 ≡ getD line at 0
 first-of line at to h = getD-take (to - at) (drop at line) 0 0 (omega arith) ∙ getD-drop at line 0 0 ∙ ap (λ z. getD line z 0) (omega arith)
@@ -68,7 +69,7 @@ no-key line key u at f e = f u (take-rest line at ∙ e)
 pub no-part : (line : List ℕ) (at from : ℕ) (key t rest : List ℕ) → drop at line ≡ key ++ drop from line → drop from line ≡ t ++ rest → Solid t → Stop rest → ((m : ℕ) → lines.Number t m → ⊥) → NoNumber line at key
 no-part line at from key t rest k c s x f n u h y e =
     let d : t ++ rest ≡ decimal n ++ u = sym c ∙ append-cancel-left key (drop from line) (decimal n ++ u) (sym k ∙ e) in
-    f n (h, cut-unique 32 t (decimal n) rest u s (solid-decimal n h) x y d .0)
+    f n (h, one-parting 32 t (decimal n) rest u s (solid-decimal n h) x y d .0)
 
 pub word-no-number : (t : List ℕ) → (Digit (getD t 0 0) → ⊥) → (m : ℕ) → lines.Number t m → ⊥
 word-no-number t f m h =
@@ -80,12 +81,12 @@ none-no-number m h = let g : Form [] = number-form [] m h in omega (arith, g .so
 -- a field is read in one way only
 pub step : (line : List ℕ) (at : ℕ) (key t : List ℕ) (to : ℕ) (t′ u : List ℕ) → Took line at key t to → Solid t′ → Stop u → drop at line ≡ key ++ (t′ ++ u) → (t ≡ t′) × (drop to line ≡ u)
 step line at key t to t′ u k h y e =
-    cut-unique 32 t t′ (drop to line) u (k .solid) h (k .stops) y (append-cancel-left key (t ++ drop to line) (t′ ++ u) (sym (k .shows) ∙ e))
+    one-parting 32 t t′ (drop to line) u (k .solid) h (k .stops) y (append-cancel-left key (t ++ drop to line) (t′ ++ u) (sym (k .shows) ∙ e))
 
 -- a key with a part after it, held against another text
 pub part-is : (line : List ℕ) (at from : ℕ) (key t rest t′ u : List ℕ) → drop at line ≡ key ++ drop from line → drop from line ≡ t ++ rest → Solid t → Stop rest → Solid t′ → Stop u → drop at line ≡ key ++ (t′ ++ u) → t ≡ t′
 part-is line at from key t rest t′ u k c s x s′ y e =
-    cut-unique 32 t t′ rest u s s′ x y (sym c ∙ append-cancel-left key (drop from line) (t′ ++ u) (sym k ∙ e)) .0
+    one-parting 32 t t′ rest u s s′ x y (sym c ∙ append-cancel-left key (drop from line) (t′ ++ u) (sym k ∙ e)) .0
 
 -- no key is empty
 pub key-some : (k : Key) (u : List ℕ) → keyText k ++ u ≡ [] → ⊥

@@ -1,0 +1,5 @@
+pub mod Ranges
+pub mod Progress
+pub mod Joined
+pub mod Sound
+pub mod Unique

@@ -1,0 +1,4 @@
+// Trace lines: one state of a log each.
+pub mod laws;
+pub mod numbers;
+pub mod states;
