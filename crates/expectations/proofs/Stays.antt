@@ -28,7 +28,7 @@ module _ (n : ℕ) (old new : Label) (g : Grown n old new) (c : ℕ) (h : c ≤ 
   apart : eqb (suc n) c ≡ false
   apart = ne-eqb (suc n) c (λ e. omega arith)
 
-  verdict-same : verdict new c ≡ verdict old c
+  pub verdict-same : verdict new c ≡ verdict old c
   verdict-same = grown-same (λ z. verdict z c) n old new g (rw later) (rw later)
 
   judged-same : judged new c ≡ judged old c

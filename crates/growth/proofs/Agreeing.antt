@@ -20,13 +20,15 @@ agree-back n s u same i p q = sym (same i p q)
 pub lawful-alike : (n : ℕ) (s u : Trace) → Agree n s u → LawfulTo n u → LawfulTo n s
 lawful-alike n s u same law i p q =
     let e = same i p q in (
-    λ h.
-        let j = h .1 .0 in
-        let d : s j ≡ u j = same j (h .1 .1) (omega (arith, h .1 .2)) in
-        law i p q .0 (
-          subst (λ (w : State). 0 < w .nominal) e (h .0),
-          (j, h .1 .1, h .1 .2, sym (ap (λ (w : State). w .nominal) d) ∙ (h .1 .3 ∙ ap (λ (w : State). w .nominal) e))),
-    λ h. law i p q .1 (subst (λ (w : State). Unfit (w .first) i ⊎ Unfit (w .second) i) e h))
+      λ h.
+          let j = h .1 .0 in
+          let d : s j ≡ u j = same j (h .1 .1) (omega (arith, h .1 .2)) in
+          law i p q .0 (
+            subst (λ (w : State). 0 < w .nominal) e (h .0),
+            (j, h .1 .1, h .1 .2, sym (ap (λ (w : State). w .nominal) d) ∙ (h .1 .3 ∙ ap (λ (w : State). w .nominal) e)),
+          ),
+      λ h. law i p q .1 (subst (λ (w : State). Unfit (w .first) i ⊎ Unfit (w .second) i) e h),
+    )
 
 -- two lawful traces that agree up to n have the same readings at each point up to n
 module _ (n : ℕ) (s u : Trace) (same : Agree n s u) (lawS : LawfulTo n s) (lawU : LawfulTo n u) where

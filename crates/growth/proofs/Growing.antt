@@ -69,21 +69,22 @@ cells-are-labels table xs f i small law a b x means =
     let z = number table xs f i small a b in
     let p = in-range (length xs) i z small a (has-date table xs f i small a b) in
     ap labelOfNumber (number-by-meaning (x .value) z (x .low) (x .high) (p .0) (p .1) (λ r c lo hi.
-        same-from-decides (dated (x .value) r c) (dated z r c) (means r c lo hi) (number-right table xs f i small a b law r c lo hi)))
+    same-from-decides (dated (x .value) r c) (dated z r c) (means r c lo hi) (number-right table xs f i small a b law r c lo hi)))
 
 -- ── Dates ──
 dated-within : (n i : ℕ) (z : ℤ) → n ≤ 256 → HasDate n i z → NotBefore i (labelOfNumber z) × NotAfter n (labelOfNumber z)
 dated-within n i z small (inl e) = subst (λ (w : Label). NotBefore i w × NotAfter n w) (sym (ap labelOfNumber e)) (tt, tt)
-dated-within n i z small (inr (d , p , q , inl e)) =
+dated-within n i z small (inr (d, p, q, inl e)) =
     subst (λ (w : Label). NotBefore i w × NotAfter n w) (sym (ap labelOfNumber e ∙ number-true d (omega arith))) (p, q)
-dated-within n i z small (inr (d , p , q , inr e)) =
+dated-within n i z small (inr (d, p, q, inr e)) =
     subst (λ (w : Label). NotBefore i w × NotAfter n w) (sym (ap labelOfNumber e ∙ number-false d (omega arith))) (p, q)
 
 pub labels-in-order : LabelsInOrder
 unfolding labelsOf
 labels-in-order table xs small = (
   λ f i a b. dated-within (length xs) i (number table xs f i small a b) small (has-date table xs f i small a b) .0,
-  λ f i a b. dated-within (length xs) i (number table xs f i small a b) small (has-date table xs f i small a b) .1)
+  λ f i a b. dated-within (length xs) i (number table xs f i small a b) small (has-date table xs f i small a b) .1,
+)
 
 -- ── Endless traces ──
 
@@ -119,8 +120,9 @@ pub labels-are-sound : LabelsAreSound
 labels-are-sound table xs f i small a b u begins law v free d =
     let own = lawful-alike (length xs) (stateAt xs) u begins (λ j p _. law j p) in
     let right = verdicts-are-sound (stateAt xs) u (length xs) v i (tree table f) a begins law in (
-    λ e. right .0 (rebound table f strong (stateAt xs) (length xs) i 0 v (⊎-map (λ k. k) sym free) (strong-last table xs f i d small own a b e)),
-    λ e. right .1 (λ h. weak-last table xs f i d small own a b e (rebound table f weak (stateAt xs) (length xs) i v 0 free h)))
+      λ e. right .0 (rebound table f strong (stateAt xs) (length xs) i 0 v (⊎-map (λ k. k) sym free) (strong-last table xs f i d small own a b e)),
+      λ e. right .1 (λ h. weak-last table xs f i d small own a b e (rebound table f weak (stateAt xs) (length xs) i v 0 free h)),
+    )
 
 -- ── One more state ──
 grown-same : (n : ℕ) (l : Label) → Grown n l l
@@ -128,7 +130,7 @@ grown-same n Unknown = inl refl
 grown-same n (TrueFrom d) = refl
 grown-same n (FalseFrom d) = refl
 
--- a number that is dated later than n is unknown up to n
+-- z is the number over n states, and z′ with one state more
 module _ (n i : ℕ) (z z′ : ℤ) (small : suc n ≤ 256) (a : 1 ≤ i) (b : i ≤ n) (h : HasDate n i z) (same : Same n (dated z) (dated z′)) where
   stays : HasDate n i z′ → Grown n (labelOfNumber z) (labelOfNumber z′)
   stays k =
@@ -138,21 +140,22 @@ module _ (n i : ℕ) (z z′ : ℤ) (small : suc n ≤ 256) (a : 1 ≤ i) (b : i
   was-unknown : Same n (dated z′) (dated (pos 0)) → z ≡ pos 0
   was-unknown later = same-number n i z (pos 0) (omega arith) a b h (inl refl) (λ r c lo hi. same r c lo hi ∙ later r c lo hi)
 
-  decides : (l : Label) → labelOfNumber z′ ≡ l → Same n (dated z′) (dated (pos 0)) → (l ≡ TrueFrom (suc n)) ⊎ (l ≡ FalseFrom (suc n)) → Grown n (labelOfNumber z) (labelOfNumber z′)
-  decides l e later new =
+  -- z′ is dated at the new state
+  new-date : (l : Label) → labelOfNumber z′ ≡ l → Same n (dated z′) (dated (pos 0)) → (l ≡ TrueFrom (suc n)) ⊎ (l ≡ FalseFrom (suc n)) → Grown n (labelOfNumber z) (labelOfNumber z′)
+  new-date l e later new =
       subst (λ (w : ℤ). Grown n (labelOfNumber w) (labelOfNumber z′)) (sym (was-unknown later))
       (inr (⊎-elim (λ k. inl (e ∙ k)) (λ k. inr (e ∙ k)) new))
 
   grown-by : HasDate (suc n) i z′ → Grown n (labelOfNumber z) (labelOfNumber z′)
   grown-by (inl e) = stays (inl e)
-  grown-by (inr (d , p , q , w)) =
+  grown-by (inr (d, p, q, w)) =
       elim (cases-lt n d) [
         | inr near ↦ stays (inr (d, p, near, w))
         | inl far ↦
             let k : d ≡ suc n = omega arith in
             elim w [
-              | inl e ↦ decides (TrueFrom d) (ap labelOfNumber e ∙ number-true d (omega arith)) (unknown-before n d z′ (omega arith) far (inl e)) (inl (ap TrueFrom k))
-              | inr e ↦ decides (FalseFrom d) (ap labelOfNumber e ∙ number-false d (omega arith)) (unknown-before n d z′ (omega arith) far (inr e)) (inr (ap FalseFrom k))
+              | inl e ↦ new-date (TrueFrom d) (ap labelOfNumber e ∙ number-true d (omega arith)) (unknown-before n d z′ (omega arith) far (inl e)) (inl (ap TrueFrom k))
+              | inr e ↦ new-date (FalseFrom d) (ap labelOfNumber e ∙ number-false d (omega arith)) (unknown-before n d z′ (omega arith) far (inr e)) (inr (ap FalseFrom k))
             ]
       ]
 

@@ -42,8 +42,8 @@ number-false d h =
 pub in-range : (n i : ℕ) (z : ℤ) → n ≤ 256 → 1 ≤ i → HasDate n i z → (negsuc 255 ≤ℤ z) × (z ≤ℤ pos 256)
 unfolding trueFrom falseFrom
 in-range n i z small a (inl e) = (omega (arith, ints), omega (arith, ints))
-in-range n i z small a (inr (d , p , q , inl e)) = (omega (arith, ints), omega (arith, ints))
-in-range n i z small a (inr (d , p , q , inr e)) = (omega (arith, ints), omega (arith, ints))
+in-range n i z small a (inr (d, p, q, inl e)) = (omega (arith, ints), omega (arith, ints))
+in-range n i z small a (inr (d, p, q, inr e)) = (omega (arith, ints), omega (arith, ints))
 
 -- ── Verdicts ──
 holds : {X : Type 0} → X → Decides true X
@@ -96,13 +96,16 @@ by-unknown is.Unknown w s = refl
 -- so it is right of a formula with the same readings
 pub right-by : (answer : Verdict) (Weak Strong : Type 0) → Decides (readAs answer true) Weak → Decides (readAs answer false) Strong → Right answer Weak Strong
 right-by answer Weak Strong w s = record {
-    whenTrue = (λ e. s .0 (ap (λ (k : Verdict). readAs k false) e), λ h. by-true answer (s .1 h));
-    whenFalse = (
-      λ e h. false≢true (sym (ap (λ (k : Verdict). readAs k true) e) ∙ w .1 h),
-      λ n. by-false answer (λ k. n (w .0 k)));
-    whenUnknown = (
-      λ e. (w .0 (ap (λ (k : Verdict). readAs k true) e), λ h. false≢true (sym (ap (λ (k : Verdict). readAs k false) e) ∙ s .1 h)),
-      λ h. by-unknown answer (w .1 (h .0)) (λ k. h .1 (s .0 k))) }
+  whenTrue = (λ e. s .0 (ap (λ (k : Verdict). readAs k false) e), λ h. by-true answer (s .1 h));
+  whenFalse = (
+    λ e h. false≢true (sym (ap (λ (k : Verdict). readAs k true) e) ∙ w .1 h),
+    λ n. by-false answer (λ k. n (w .0 k)),
+  );
+  whenUnknown = (
+    λ e. (w .0 (ap (λ (k : Verdict). readAs k true) e), λ h. false≢true (sym (ap (λ (k : Verdict). readAs k false) e) ∙ s .1 h)),
+    λ h. by-unknown answer (w .1 (h .0)) (λ k. h .1 (s .0 k)),
+  );
+}
 
 -- ── Numbers that are dated up to point n ──
 
@@ -111,10 +114,10 @@ says-after : (n i : ℕ) (z : ℤ) → n ≤ 256 → HasDate n i z → (r : Bool
 unfolding trueFrom falseFrom
 says-after n i z small (inl e) true c far top = (λ y. omega (arith, ints), λ y. omega (arith, ints))
 says-after n i z small (inl e) false c far top = (λ y. omega (arith, ints), λ y. omega (arith, ints))
-says-after n i z small (inr (d , p , q , inl e)) true c far top = (λ y. omega (arith, ints), λ y. omega (arith, ints))
-says-after n i z small (inr (d , p , q , inl e)) false c far top = (λ y. omega (arith, ints), λ y. omega (arith, ints))
-says-after n i z small (inr (d , p , q , inr e)) true c far top = (λ y. omega (arith, ints), λ y. omega (arith, ints))
-says-after n i z small (inr (d , p , q , inr e)) false c far top = (λ y. omega (arith, ints), λ y. omega (arith, ints))
+says-after n i z small (inr (d, p, q, inl e)) true c far top = (λ y. omega (arith, ints), λ y. omega (arith, ints))
+says-after n i z small (inr (d, p, q, inl e)) false c far top = (λ y. omega (arith, ints), λ y. omega (arith, ints))
+says-after n i z small (inr (d, p, q, inr e)) true c far top = (λ y. omega (arith, ints), λ y. omega (arith, ints))
+says-after n i z small (inr (d, p, q, inr e)) false c far top = (λ y. omega (arith, ints), λ y. omega (arith, ints))
 
 reads-after : (n i : ℕ) (z : ℤ) → n ≤ 256 → HasDate n i z → (r : Bool) (c : ℕ) → n ≤ c → c ≤ 256 → dated z r c ≡ dated z r n
 reads-after n i z small h r c far top =
@@ -126,10 +129,10 @@ same-number n i x y small a b h k same =
     let p = in-range n i x small a h in
     let q = in-range n i y small a k in
     number-by-meaning x y (p .0) (p .1) (q .0) (q .1) (λ r c lo hi.
-        ⊎-elim
-        (λ (far : n < c). reads-after n i x small h r c (omega arith) hi ∙ (same r n (omega arith) (omega arith) ∙ sym (reads-after n i y small k r c (omega arith) hi)))
-        (λ near. same r c lo near)
-        (cases-lt n c))
+    ⊎-elim
+    (λ (far : n < c). reads-after n i x small h r c (omega arith) hi ∙ (same r n (omega arith) (omega arith) ∙ sym (reads-after n i y small k r c (omega arith) hi)))
+    (λ near. same r c lo near)
+    (cases-lt n c))
 
 -- a number that is dated after point c says no more there than an unknown one
 says-before : (d : ℕ) (z : ℤ) → d ≤ 256 → (z ≡ trueFrom d) ⊎ (z ≡ falseFrom d) → (r : Bool) (c : ℕ) → c < d → Says r c z ↔ Says r c (pos 0)

@@ -5,3 +5,4 @@ pub mod Likes
 pub mod Faithfuls
 pub mod Appending
 pub mod Followed
+pub mod Wholes

@@ -14,6 +14,7 @@ ghost use Rattle.answers.specs.Answers.{refusedBy, outcome};
 ghost use Rattle.growth.specs.Growth.{labelsOf};
 ghost use Rattle.table.specs.Tables.{InOrder};
 ghost use Rattle.monitor.specs.Book.{Faithful, groundOf, tableOf, rulesIn};
+ghost use Rattle.monitor.specs.Whole.{WholeAnswered, Agrees};
 use crate::book::Book;
 use crate::live::Monitor;
 use expectations::reading::verdict_of;
@@ -21,6 +22,8 @@ use expectations::types::Notice;
 use expectations::types::Standing;
 use expectations::types::Tally;
 use expectations::types::Verdict;
+use labelling::whole::label_whole;
+use labels::LabelKind;
 use lawful::next_unlawful;
 use logic::types::State;
 use records::growing::Growing;
@@ -180,5 +183,26 @@ impl<R: Growing> Monitor<R> {
             Some(refusal) => Err(refusal),
             None => Ok(self.take(state)),
         }
+    }
+}
+
+impl<R: Growing> Monitor<R> {
+    // The record that the monitor has taken over.
+    pub fn record(&self) -> &R
+        ensures { λ r. ⌜ now r ≡ now (self .entry) .log ⌝ }
+    {
+        &self.log
+    }
+
+    // Labels the whole record in any kind of label, into memory that is handed in, and answers the number of states. The
+    // labels are those that the monitor itself answers with.
+    pub fn label_record<K: LabelKind + Copy>(&self, labels: &mut [K], work: &mut [K]) -> Result<usize, Refusal>
+        ensures whole { λ r. ⌜ WholeAnswered reads reach (now (self .entry) .book .count) (tableOf (now (self .entry) .book)) (R·Readable .states (now (self .entry) .log)) (now (labels .entry)) (now (work .entry)) r (now (labels .exit)) (now (work .exit)) ⌝ }
+        ensures agrees { λ r. ⌜ (isOk r ≡ true → Agrees reads (groundOf (now (self .entry) .book) (R·Growing .room (now (self .entry) .log))) (R·Readable .states (now (self .entry) .log)) (now (labels .exit))) ⌝ }
+    {
+        if self.log.count() != self.book.count {
+            return Err(Refusal::ForeignRecord);
+        }
+        label_whole(&self.book.table, &self.log, labels, work)
     }
 }
