@@ -8,7 +8,7 @@ use lib.ListN.{length, getD}
 use Rattle.std.specs.Results.{isOk}
 use Rattle.std.specs.declared.result.Result.{Result}
 use Rattle.std.specs.declared.result.Result.the-variants.{Ok, Err}
-use Rattle.std.proofs.shelf.Tests.{false≢true, leb-false}
+use Rattle.std.proofs.shelf.Tests.{false≢true}
 use Rattle.labels.specs.Readings.{Reading}
 use Rattle.logic.specs.declared.types.Formula.{Formula}
 use Rattle.logic.specs.declared.types.State.{State}
@@ -42,12 +42,12 @@ module _ {K : Type 0} (reads : K → Reading) (reach own : ℕ) (table : List Fo
 -- the cells read as the monitor's answers
 pub whole-agrees : {K : Type 0} (reads : K → Reading) (reach : ℕ) (b : Book) (room : ℕ) (xs : List State) (old oldWork new newWork : List K) (r : Result ℕ Refusal)
     → Answered reads reach (tableOf b) xs old oldWork r new newWork → isOk r ≡ true → Agrees reads (groundOf b room) xs new
-whole-agrees reads reach b room xs old oldWork new newWork (Err why) a ok = absurd (false≢true ok)
+whole-agrees reads reach b room xs old oldWork new newWork (Err why) a ok f i c v told d t = absurd (false≢true ok)
 whole-agrees reads reach b room xs old oldWork new newWork (Ok n) a ok f i c v told d r =
     let asked = label-told (groundOf b room) xs f i c v told in
     let p = asked .0 in
     let done = a .1 in
-    let within : f < length (tableOf b) = leb-false (length (tableOf b)) f (p .is-formula) in
+    let within : f < length (tableOf b) = p .is-formula in
     kinds-agree reads reach (tableOf b) xs f i (done .short .0) (done .lawful) (p .state-from) (p .state-to) (getD new (place (length xs) f i) d)
     (done .labels f i within (p .state-from) (p .state-to) d .0 (p .is-closed) 0) c (omega (arith, p .state-from, p .point-from)) (omega (arith, p .point-to, done .short .1)) (omega (arith, p .point-to, done .short .0)) r
     ∙ ap (λ w. readAs w r) (asked .1)
