@@ -5,6 +5,8 @@ use mathlib.Core.Bool.{cond}
 use Prim.Native.Nat.{ℕ, _≤_, _<_}
 use lib.Dec.{eqb}
 use lib.ListN.{length}
+use Rattle.std.specs.declared.result.Result.{Result}
+use Rattle.std.specs.declared.result.Result.the-variants.{Ok, Err}
 use Rattle.logic.specs.declared.types.Formula.{Formula}
 use Rattle.logic.specs.declared.types.Rule.{Rule}
 use Rattle.logic.specs.declared.types.State.{State}
@@ -50,3 +52,8 @@ pub record Meant (G : Ground) (xs : List State) : Type 0 where
 -- the states of the record after one call of a monitor that has counted `own` states
 abbrev pub grownTo : (own : ℕ) → Ground → List State → Call → List State
 grownTo own G xs call = cond (eqb own (length xs)) (after G xs call) xs
+
+-- the answer of one call, as a case of all answers
+abbrev pub asAnswer : {A : Type 0} → (A → Answer) → Result A Refusal → Answer
+asAnswer f (Ok v) = f v
+asAnswer f (Err why) = Refused why

@@ -5,19 +5,71 @@ ghost use Prim.Native.Nat.{ℕ, _≤_, _<_};
 ghost use lib.ListN.{length};
 ghost use Rattle.std.specs.Results.{isOk};
 ghost use Rattle.table.specs.Tables.{formulasOf, rulesOf};
-ghost use Rattle.answers.specs.Answers.{replied};
+ghost use Rattle.answers.specs.declared.types.Answer.the-variants.{Number, Reads, Stands, Counts};
+ghost use Rattle.answers.specs.Answers.{replied, toldNotice};
 ghost use Rattle.answers.specs.Law.{Ran, Judged};
 ghost use Rattle.monitor.specs.Book.{Faithful, groundOf};
 ghost use Rattle.monitor.specs.Whole.{WholeAnswered, Agrees};
-ghost use Rattle.runs.specs.Meant.{ground, grownTo, Meant};
+ghost use Rattle.runs.specs.Meant.{asAnswer, ground, grownTo, Meant};
 use answers::types::Answer;
 use answers::types::Call;
+use expectations::types::Notice;
+use expectations::types::Standing;
+use expectations::types::Tally;
+use expectations::types::Verdict;
 use labels::LabelKind;
 use monitor::live::Monitor;
 use records::growing::Growing;
 use records::readable::Readable;
 use refusals::Refusal;
 use table::finished::Table;
+
+// The answers of the calls, as cases of one type.
+fn numbered(r: Result<usize, Refusal>) -> Answer
+    ensures { λ a. ⌜ a ≡ asAnswer Number r ⌝ }
+{
+    match r {
+        Ok(number) => Answer::Number(number),
+        Err(refusal) => Answer::Refused(refusal),
+    }
+}
+
+fn read(r: Result<Verdict, Refusal>) -> Answer
+    ensures { λ a. ⌜ a ≡ asAnswer Reads r ⌝ }
+{
+    match r {
+        Ok(verdict) => Answer::Reads(verdict),
+        Err(refusal) => Answer::Refused(refusal),
+    }
+}
+
+fn stood(r: Result<Standing, Refusal>) -> Answer
+    ensures { λ a. ⌜ a ≡ asAnswer Stands r ⌝ }
+{
+    match r {
+        Ok(standing) => Answer::Stands(standing),
+        Err(refusal) => Answer::Refused(refusal),
+    }
+}
+
+fn counted(r: Result<Tally, Refusal>) -> Answer
+    ensures { λ a. ⌜ a ≡ asAnswer Counts r ⌝ }
+{
+    match r {
+        Ok(tally) => Answer::Counts(tally),
+        Err(refusal) => Answer::Refused(refusal),
+    }
+}
+
+fn noticed(r: Result<Option<Notice>, Refusal>) -> Answer
+    ensures { λ a. ⌜ a ≡ asAnswer toldNotice r ⌝ }
+{
+    match r {
+        Ok(Some(notice)) => Answer::Tells(notice),
+        Ok(None) => Answer::NoMore,
+        Err(refusal) => Answer::Refused(refusal),
+    }
+}
 
 // One call of a monitor, with its answer.
 pub fn reply<R: Growing>(monitor: &mut Monitor<R>, call: Call) -> Answer
@@ -30,26 +82,10 @@ pub fn reply<R: Growing>(monitor: &mut Monitor<R>, call: Call) -> Answer
     ensures faithful { λ _. ⌜ (Faithful (R·Readable .states (now (monitor .entry) .log)) (now (monitor .entry) .book) → Faithful (R·Readable .states (now (monitor .exit) .log)) (now (monitor .exit) .book)) ⌝ }
 {
     match call {
-        Call::Append(state) => match monitor.append(state) {
-            Ok(number) => Answer::Number(number),
-            Err(refusal) => Answer::Refused(refusal),
-        },
-        Call::LabelAt(formula, state, point) => match monitor.label(formula, state, point) {
-            Ok(verdict) => Answer::Reads(verdict),
-            Err(refusal) => Answer::Refused(refusal),
-        },
-        Call::StandingAt(rule, state, point) => match monitor.standing(rule, state, point) {
-            Ok(standing) => Answer::Stands(standing),
-            Err(refusal) => Answer::Refused(refusal),
-        },
-        Call::TallyOf(rule) => match monitor.tally(rule) {
-            Ok(tally) => Answer::Counts(tally),
-            Err(refusal) => Answer::Refused(refusal),
-        },
-        Call::NoticeOf(point, k) => match monitor.notice(point, k) {
-            Ok(Some(notice)) => Answer::Tells(notice),
-            Ok(None) => Answer::NoMore,
-            Err(refusal) => Answer::Refused(refusal),
-        },
+        Call::Append(state) => numbered(monitor.append(state)),
+        Call::LabelAt(formula, state, point) => read(monitor.label(formula, state, point)),
+        Call::StandingAt(rule, state, point) => stood(monitor.standing(rule, state, point)),
+        Call::TallyOf(rule) => counted(monitor.tally(rule)),
+        Call::NoticeOf(point, k) => noticed(monitor.notice(point, k)),
     }
 }
