@@ -2,7 +2,7 @@ ghost use mathlib.Core.Path.{_≡_};
 ghost use mathlib.Core.Bool.{true};
 ghost use mathlib.Core.List.{[]};
 ghost use Prim.Native.Nat.{ℕ, _≤_, _<_};
-ghost use lib.ListN.{length};
+ghost use lib.ListN.{length, drop};
 ghost use Rattle.std.specs.Results.{isOk};
 ghost use Rattle.table.specs.Tables.{formulasOf, rulesOf};
 ghost use Rattle.answers.specs.declared.types.Answer.the-variants.{Number, Reads, Stands, Counts};
@@ -87,5 +87,22 @@ pub fn reply<R: Growing>(monitor: &mut Monitor<R>, call: Call) -> Answer
         Call::StandingAt(rule, state, point) => stood(monitor.standing(rule, state, point)),
         Call::TallyOf(rule) => counted(monitor.tally(rule)),
         Call::NoticeOf(point, k) => noticed(monitor.notice(point, k)),
+    }
+}
+
+// Carries out the calls of a list in order, on a new monitor.
+fn reply_all<R: Growing>(monitor: &mut Monitor<R>, calls: &[Call], answers: &mut [Answer])
+    requires faithful { ⌜ Faithful (R·Readable .states (now monitor .log)) (now monitor .book) ⌝ }
+    requires fresh { ⌜ now monitor .book .count ≡ 0 ⌝ }
+    requires memory { ⌜ length (now calls) ≤ length (now answers) ⌝ }
+    ensures ran { λ _. ⌜ Ran (groundOf (now (monitor .entry) .book) (R·Growing .room (now (monitor .entry) .log))) (R·Readable .states (now (monitor .entry) .log)) (now (calls .entry)) (now (answers .exit)) (R·Readable .states (now (monitor .exit) .log)) ⌝ }
+    ensures later { λ _. ⌜ drop (length (now (calls .entry))) (now (answers .exit)) ≡ drop (length (now (calls .entry))) (now (answers .entry)) ⌝ }
+    ensures foreign { λ _. ⌜ (0 < length (R·Readable .states (now (monitor .entry) .log)) → now (monitor .exit) ≡ now (monitor .entry)) ⌝ }
+    ensures counted { λ _. ⌜ (length (R·Readable .states (now (monitor .entry) .log)) ≡ 0 → now (monitor .exit) .book .count ≡ length (R·Readable .states (now (monitor .exit) .log))) ⌝ }
+    ensures table { λ _. ⌜ now (monitor .exit) .book .table ≡ now (monitor .entry) .book .table ⌝ }
+    ensures room { λ _. ⌜ R·Growing .room (now (monitor .exit) .log) ≡ R·Growing .room (now (monitor .entry) .log) ⌝ }
+{
+    for k in 0..calls.len() {
+        answers[k] = reply(monitor, calls[k]);
     }
 }
