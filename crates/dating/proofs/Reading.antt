@@ -1,13 +1,12 @@
 -- A label gives both readings at every truncation point.
 use mathlib.Core.Path.{_≡_, refl, sym, ap, subst, _∙_}
 use mathlib.Core.Logic.{_⊎_, inl, inr, _↔_, Iff·trans, Iff·symm, Iff·and, Iff·not}
-use mathlib.Core.Bool.{Bool, true, false, cond, not, _&&_, _||_}
+use mathlib.Core.Bool.{Bool, true, false, cond, not, _&&_}
 use Prim.Native.Nat.{ℕ, zero, suc, _+_, _-_, _≤_, _<_, min}
 use native.Mathlib.Omega.{arith}
 use lib.Dec.{eqb, ltb}
 use lib.IntN.{ℤ, pos}
-use lib.Signed.{_≤ℤ_, _<ℤ_}
-use Rattle.std.specs.Numbers.{maxZ, minZ}
+use Rattle.std.specs.Numbers.{minZ}
 use Rattle.std.specs.Orderings.{Decides}
 use Rattle.std.proofs.shelf.Signed.{ints, by-ltZ}
 use Rattle.std.proofs.shelf.Tests.{cases-lt, cases-eq, cases-bool, both-ways, ltb-true, ltb-false, lt-ltb, eqb-true, eq-eqb, and-parts, and-from, or-cases, or-left, or-right, false≢true}
@@ -16,10 +15,11 @@ use Rattle.logic.specs.States.{Trace}
 use Rattle.logic.specs.Logic.{Tree, true′, signal, nominal, not′, and′, or′, next, previous, until, since, at′, variable, reference, bind, some′, Shows, Carries, Refers, Kept, Reads, weak, strong, Nameless, AtNominal}
 use Rattle.logic.proofs.Keeps.{past}
 use Rattle.logic.proofs.Uniques.{UniqueTo, unique}
-use Rattle.dating.specs.Dated.{trueFrom, falseFrom, seen, dated}
-use Rattle.dating.specs.Labels.{atOnce, shows, carries, isKind, refers, untilFrom, sinceTo, atNominal, label}
+use Rattle.labels.specs.Dated.{dated}
+use Rattle.dating.specs.Dated.{trueFrom, falseFrom, seen}
+use Rattle.dating.specs.Labels.{shows, carries, isKind, refers, untilFrom, sinceTo, atNominal, label}
 use Rattle.dating.specs.Laws.{LabelsRead}
-use Rattle.dating.proofs.Says.{Says, dated-says, says-min, says-max, says-neg, says-true, says-unknown, says-seen, says-when, says-test, kept-iff, kept, kept-or, sum-iff, Settled, settled-before, settled-not, settled-and, settled-or}
+use Rattle.dating.proofs.Says.{Says, dated-says, says-min, says-max, says-neg, says-true, says-unknown, says-seen, says-when, says-test, kept-iff, kept, kept-or, sum-iff, settled-before, settled-not, settled-and, settled-or}
 use Rattle.dating.proofs.Steps.{weak-past, kept-state, settled, until-step, since-step, since-first}
 use Rattle.dating.proofs.Ranged.{Ranged, ranged}
 

@@ -12,7 +12,8 @@ use Rattle.std.specs.Orderings.{Decides}
 use Rattle.std.proofs.shelf.Tests.{cases-lt, false≢true}
 use Rattle.std.proofs.shelf.Signed.{ints, clamps, by-ltZ}
 use Rattle.logic.specs.Logic.{Kept}
-use Rattle.dating.specs.Dated.{trueFrom, falseFrom, seen, dated}
+use Rattle.labels.specs.Dated.{dated}
+use Rattle.dating.specs.Dated.{trueFrom, falseFrom, seen}
 use Rattle.dating.specs.Labels.{atOnce}
 
 -- at point c the number z is not false (weakly), or it is true (strongly)

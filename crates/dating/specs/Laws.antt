@@ -8,7 +8,8 @@ use Rattle.std.specs.Orderings.{Decides}
 use Rattle.logic.specs.States.{Trace}
 use Rattle.logic.specs.Lawful.{LawfulTo}
 use Rattle.logic.specs.Logic.{Tree, Reads}
-use Rattle.dating.specs.Dated.{trueFrom, falseFrom, dated}
+use Rattle.labels.specs.Dated.{dated}
+use Rattle.dating.specs.Dated.{trueFrom, falseFrom}
 use Rattle.dating.specs.Labels.{label}
 
 -- A label over n lawful states gives both readings at every truncation point up to 256; points after n read as n does.

@@ -6,3 +6,6 @@ pub mod Decisions
 pub mod Tellings
 pub mod Leaves
 pub mod Nodes
+pub mod Bounds
+pub mod Cones
+pub mod Publishes

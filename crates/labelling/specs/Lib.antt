@@ -1,2 +1,4 @@
 pub mod Rows
 pub mod Tells
+pub mod Bound
+pub mod Whole

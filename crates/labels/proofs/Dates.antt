@@ -10,7 +10,7 @@ use lib.Signed.{_≤ℤ_, _<ℤ_, ltZ, leZ}
 use Rattle.std.specs.Numbers.{maxZ, minZ}
 use Rattle.std.proofs.shelf.Signed.{ints, clamps, by-ltZ}
 use Rattle.std.proofs.shelf.Tests.{cases-lt, lt-ltb, le-ltb, cond-true, cond-false}
-use Rattle.labels.specs.Readings.{Same, seen}
+use Rattle.labels.specs.Readings.{Reading, Same, DateOf, seen}
 use Rattle.labels.specs.Dated.{dated}
 
 lt-true : (a b : ℤ) → a <ℤ b → ltZ a b ≡ true
@@ -74,3 +74,21 @@ number-by-meaning x y lo hi lo′ hi′ same =
     by-ltZ x y
     (λ h. absurd (below-differs x y lo hi′ same h))
     (λ h. by-ltZ y x (λ k. absurd (below-differs y x lo′ hi (λ e c p q. sym (same e c p q)) k)) (λ k. omega (arith, ints)))
+
+pub clash : {b : Bool} → b ≡ true → b ≡ false → ⊥
+clash p q = let z : _≡_ {A = ℕ} 0 1 = cc in omega arith
+
+not-earlier : (n : ℕ) (f : Reading) (d e : ℕ) → DateOf n f d → DateOf n f e → d < e → ⊥
+not-earlier n f d e p q h =
+    ⊎-elim
+    (λ z. clash (p .holds z) (q .first d z h))
+    (λ z. clash (q .holds (omega arith)) (p .never (omega arith) e (omega arith) (q .within)))
+    (cases-lt 0 d)
+
+-- A reading has one date.
+pub date-only : (n : ℕ) (f : Reading) (d e : ℕ) → DateOf n f d → DateOf n f e → d ≡ e
+date-only n f d e p q =
+    ⊎-elim
+    (λ h. absurd (not-earlier n f d e p q h))
+    (λ h. ⊎-elim (λ k. absurd (not-earlier n f e d q p k)) (λ k. omega arith) (cases-lt e d))
+    (cases-lt d e)

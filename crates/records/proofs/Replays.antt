@@ -42,16 +42,16 @@ made-missing cs i (inr h) = state-past (replayed 0 cs) i (rw (replayed-length 0 
 -- state i of those that the changes make
 pub made-found : (cs : List Change) (i s : ℕ) (d : Change) → (i ≡ 0 → ⊥) → i ≤ length cs → s ≡ signalsAfter 0 (take i cs)
     → _≡_ {A = State}
-      record { signals = s; nominal = getD cs (i - 1) d .nominal; first = getD cs (i - 1) d .first; second = getD cs (i - 1) d .second }
-      (stateAt (replayed 0 cs) i)
+    record { signals = s; nominal = getD cs (i - 1) d .nominal; first = getD cs (i - 1) d .first; second = getD cs (i - 1) d .second }
+    (stateAt (replayed 0 cs) i)
 made-found cs zero s d h k e = absurd (h refl)
 made-found cs (suc p) s d h k e = rw (e, sub-one) (sym (replayed-at 0 cs p d (omega arith)))
 
 -- the change from the last signals to those of x makes x
 pub made-back : (cs : List Change) (x : State)
     → let s : ℕ = signalsAfter 0 cs in
-      replayed 0 (cs ++ record { differing = bitXor s (x .signals); nominal = x .nominal; first = x .first; second = x .second } ∷ [])
-      ≡ replayed 0 cs ++ x ∷ []
+    replayed 0 (cs ++ record { differing = bitXor s (x .signals); nominal = x .nominal; first = x .first; second = x .second } ∷ [])
+    ≡ replayed 0 cs ++ x ∷ []
 made-back cs x =
     replayed-push 0 cs _
     ∙ ap (λ (s : ℕ). replayed 0 cs ++ record { signals = s; nominal = x .nominal; first = x .first; second = x .second } ∷ []) (xor-back (signalsAfter 0 cs) (x .signals))

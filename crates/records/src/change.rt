@@ -4,6 +4,7 @@ ghost use mathlib.Core.List.{[], _∷_, _++_};
 ghost use Rattle.logic.specs.States.{stateAt};
 ghost use Rattle.records.specs.Changed.{signalsAfter, replayed};
 use crate::readable::BLANK;
+use crate::readable::NO_REFERENCE;
 use logic::types::Reference;
 use logic::types::State;
 
@@ -16,6 +17,14 @@ pub struct Change {
     pub second: Reference,
 }
 
+// No signal differs, and nothing is carried.
+pub(crate) const NO_CHANGE: Change = Change {
+    differing: 0,
+    nominal: 0,
+    first: NO_REFERENCE,
+    second: NO_REFERENCE,
+};
+
 // State i of those that the changes make.
 pub(crate) fn state_made(changes: &[Change], i: usize) -> State
     ensures { λ r. ⌜ r ≡ stateAt (replayed 0 (now (changes .entry))) i ⌝ }
@@ -23,16 +32,36 @@ pub(crate) fn state_made(changes: &[Change], i: usize) -> State
     if i == 0 || changes.len() < i {
         return BLANK;
     }
-    let Change { nominal, first, second, .. } = changes[i - 1];
-    State { signals: signals_after(&changes[..i]), nominal, first, second }
+    let Change {
+        nominal,
+        first,
+        second,
+        ..
+    } = changes[i - 1];
+    State {
+        signals: signals_after(&changes[..i]),
+        nominal,
+        first,
+        second,
+    }
 }
 
 // The change that makes the state, where it follows on the changes before.
 pub(crate) fn change_to(state: State, before: &[Change]) -> Change
     ensures { λ r. ⌜ replayed 0 (now (before .entry) ++ r ∷ []) ≡ replayed 0 (now (before .entry)) ++ state ∷ [] ⌝ }
 {
-    let State { signals, nominal, first, second } = state;
-    Change { differing: signals_after(before) ^ signals, nominal, first, second }
+    let State {
+        signals,
+        nominal,
+        first,
+        second,
+    } = state;
+    Change {
+        differing: signals_after(before) ^ signals,
+        nominal,
+        first,
+        second,
+    }
 }
 
 // The signals that are on after the changes, before which all are off.

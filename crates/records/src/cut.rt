@@ -1,13 +1,12 @@
 // A record that stands over another one and means its first states.
 ghost use mathlib.Core.Path.{_≡_};
-ghost use mathlib.Core.List.{List};
-ghost use lib.ListN.{length, take};
-ghost use Rattle.logic.specs.States.{stateAt};
-ghost use Rattle.logic.specs.declared.types.State.{State};
+ghost use lib.ListN.{take};
+use crate::firsts::count_within;
+use crate::firsts::number_within;
 use crate::readable::Readable;
 use logic::types::State;
 
-// The first `limit` states of the record below, or all of them if there are fewer. (On the shop floor: a cut record.)
+// The first `limit` states of the record below, or all of them if there are fewer.
 #[derive(Drop)]
 pub struct CutRecord<R: Readable> {
     lower: R,
@@ -26,25 +25,10 @@ pub impl<R: Readable> Readable for CutRecord<R> as CutReadable {
     ghost states = { λ s. take (s .limit) (R·Readable .states (s .lower)) };
 
     fn count(&self) -> usize {
-        kept_of(self.lower.count(), self.limit)
+        count_within(self.limit, self.lower.count())
     }
 
     fn state(&self, i: usize) -> State {
-        self.lower.state(within(i, self.limit))
+        self.lower.state(number_within(self.limit, i))
     }
-}
-
-// How many of a list of `count` states are among its first `limit`.
-fn kept_of(count: usize, limit: usize) -> usize
-    ensures { λ r. ⌜ ((xs : List State) → count ≡ length xs → r ≡ length (take limit xs)) ⌝ }
-{
-    count.min(limit)
-}
-
-// The number under which a list of states has the state that its first `limit` states have under i: i itself, or 0, the
-// number of no state, past the limit.
-fn within(i: usize, limit: usize) -> usize
-    ensures { λ r. ⌜ ((xs : List State) → stateAt xs r ≡ stateAt (take limit xs) i) ⌝ }
-{
-    if i <= limit { i } else { 0 }
 }

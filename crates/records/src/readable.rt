@@ -8,9 +8,14 @@ use logic::types::Reference;
 use logic::types::State;
 
 // What a record answers for a state that it does not hold.
-pub const BLANK: State = State { signals: 0, nominal: 0, first: NO_REFERENCE, second: NO_REFERENCE };
+pub const BLANK: State = State {
+    signals: 0,
+    nominal: 0,
+    first: NO_REFERENCE,
+    second: NO_REFERENCE,
+};
 
-const NO_REFERENCE: Reference = Reference { kind: 0, target: 0 };
+pub const NO_REFERENCE: Reference = Reference { kind: 0, target: 0 };
 
 // A record means a list of states, numbered from 1. A state that it does not hold reads as all zeros.
 pub trait Readable {

@@ -35,5 +35,9 @@ pub impl<'a> Readable for Rows<'a> as RowsReadable {
 pub(crate) fn state_of(rows: &[State], i: usize) -> State
     ensures { λ r. ⌜ r ≡ stateAt (now (rows .entry)) i ⌝ }
 {
-    if i == 0 || rows.len() < i { BLANK } else { rows[i - 1] }
+    if i == 0 || rows.len() < i {
+        BLANK
+    } else {
+        rows[i - 1]
+    }
 }

@@ -18,6 +18,14 @@ impl Draft {
         &self.formulas[0..self.count]
     }
 
+    fn rule_rows(&self) -> &[Rule]
+        ensures list { λ r. ⌜ now r ≡ rulesOf (now (self .entry)) ⌝ }
+        ensures count { λ r. ⌜ length (rulesOf (now (self .entry))) ≡ now (self .entry) .«rule_count» ⌝ }
+        ensures order { λ r. ⌜ InOrder (formulasOf (now (self .entry))) (rulesOf (now (self .entry))) ⌝ }
+    {
+        &self.rules[0..self.rule_count]
+    }
+
     fn loose_flags(&self) -> &[bool]
         ensures list { λ r. ⌜ now r ≡ looseOf (now (self .entry)) ⌝ }
         ensures count { λ r. ⌜ length (now r) ≡ length (formulasOf (now (self .entry))) ⌝ }
@@ -46,11 +54,12 @@ impl Table {
         self.draft.loose_flags()
     }
 
-    // The rules, in the order of their numbers: at least one.
+    // The rules, in the order of their numbers: at least one, and all of them in order.
     pub fn rules(&self) -> &[Rule]
         ensures list { λ r. ⌜ now r ≡ rulesOf (now (self .entry) .draft) ⌝ }
         ensures some { λ r. ⌜ 0 < length (now r) ⌝ }
+        ensures order { λ r. ⌜ InOrder (formulasOf (now (self .entry) .draft)) (now r) ⌝ }
     {
-        &self.draft.rules[0..self.draft.rule_count]
+        self.draft.rule_rows()
     }
 }

@@ -7,7 +7,7 @@ use Prim.Native.Nat.{ℕ, zero, suc, _≤_, _<_, min}
 use native.Mathlib.Omega.{arith}
 use lib.Dec.{T, ltb, leb}
 use lib.ListN.{length, getD}
-use lib.IntN.{ℤ, pos}
+use lib.IntN.{ℤ}
 use lib.Signed.{leZ, leZ-yes, _≤ℤ_}
 use Rattle.std.specs.Orderings.{Decides}
 use Rattle.std.specs.shelf.Lists.{All}
@@ -20,7 +20,8 @@ use Rattle.logic.specs.States.{Trace, stateAt}
 use Rattle.logic.specs.Logic.{Tree, Reads, strong}
 use Rattle.logic.specs.Lawful.{LawfulRecord}
 use Rattle.logic.specs.Tables.{OrderlyTable, treeTo, tree}
-use Rattle.dating.specs.Dated.{trueFrom, falseFrom, seen, dated}
+use Rattle.labels.specs.Dated.{dated}
+use Rattle.dating.specs.Dated.{trueFrom, falseFrom, seen}
 use Rattle.dating.specs.Labels.{untilFrom, sinceTo, atNominal, label}
 use Rattle.dating.proofs.Reading.{labels-read}
 use Rattle.worked.specs.Examples.{Labelled, Raising, Offered, labels, raisings, offers}
@@ -72,7 +73,7 @@ sound-by table xs f h =
       lawful = lawful-by xs (p .0);
       orderly = table-by table (q .0);
       few = leb-true (length xs) 256 (r .0);
-      there = ltb-true f (length table) (r .1)
+      there = ltb-true f (length table) (r .1);
     }
 
 labelOf : List Formula → List State → (f i : ℕ) → ℤ
@@ -104,7 +105,7 @@ label-by k h =
       state-there = (low, top);
       readings = λ r c c1 c256.
           subst (λ (y : ℤ). Decides (dated y r c) (Reads r (stateAt xs) (min c (length xs)) 0 (k .state) (tree (k .table) (k .formula)))) e
-          (labels-read (stateAt xs) (length xs) 0 (k .state) (tree (k .table) (k .formula)) (ok .few) (ok .lawful) low top r c c1 c256)
+          (labels-read (stateAt xs) (length xs) 0 (k .state) (tree (k .table) (k .formula)) (ok .few) (ok .lawful) low top r c c1 c256);
     }
 
 -- ── Raisings ──
@@ -143,7 +144,7 @@ raising-by k h =
           let e : min (suc j) (length xs) ≡ suc j = omega arith in
           decides-at (getD (k .raised) j false) (dated (labelOf (k .table) xs (k .condition) (suc j)) false (suc j)) (raised-by k (length xs) (p .1) j w)
           (subst (λ (c : ℕ). Decides (dated (label (stateAt xs) (length xs) 0 (suc j) φ) false (suc j)) (Reads strong (stateAt xs) c 0 (suc j) φ)) e
-          (labels-read (stateAt xs) (length xs) 0 (suc j) φ few (ok .lawful) (omega arith) w false (suc j) (omega arith) (omega arith)))
+          (labels-read (stateAt xs) (length xs) 0 (suc j) φ few (ok .lawful) (omega arith) w false (suc j) (omega arith) (omega arith)));
     }
 
 -- ── Refusals ──
@@ -156,7 +157,7 @@ refusal-by k h =
     let p = and-parts (same (k .nominal-taken) (taken′ s (k .state))) (same (k .reference-unfit) (unfit′ s (k .state))) h in
     record {
       nominal = decides-at (k .nominal-taken) (taken′ s (k .state)) (same-by (k .nominal-taken) (taken′ s (k .state)) (p .0)) (decides-taken s (k .state));
-      reference = decides-at (k .reference-unfit) (unfit′ s (k .state)) (same-by (k .reference-unfit) (unfit′ s (k .state)) (p .1)) (decides-reference s (k .state))
+      reference = decides-at (k .reference-unfit) (unfit′ s (k .state)) (same-by (k .reference-unfit) (unfit′ s (k .state)) (p .1)) (decides-reference s (k .state));
     }
 
 pub worked-examples : WorkedExamples
@@ -164,5 +165,5 @@ unfolding same labelOf treeTo tree trueFrom falseFrom seen untilFrom sinceTo atN
 worked-examples = record {
   right-labels = each-by right-label RightLabel label-by labels refl;
   right-raisings = each-by right-raising RightRaising raising-by raisings refl;
-  right-refusals = each-by right-refusal RightRefusal refusal-by offers refl
+  right-refusals = each-by right-refusal RightRefusal refusal-by offers refl;
 }

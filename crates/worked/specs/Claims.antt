@@ -8,7 +8,7 @@ use Rattle.logic.specs.States.{stateAt}
 use Rattle.logic.specs.Logic.{Reads, strong}
 use Rattle.logic.specs.Lawful.{LawfulRecord, NominalTaken, ReferenceUnfit}
 use Rattle.logic.specs.Tables.{OrderlyTable, tree}
-use Rattle.dating.specs.Dated.{dated}
+use Rattle.labels.specs.Dated.{dated}
 use Rattle.worked.specs.Examples.{Labelled, Raising, Offered, labels, raisings, offers}
 
 -- The expected number is the label by its meaning: it has both readings of the formula at every truncation point up to 256,

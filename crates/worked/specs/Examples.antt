@@ -2,7 +2,7 @@
 use mathlib.Core.List.{List, [], _∷_}
 use mathlib.Core.Bool.{Bool, true, false}
 use Prim.Native.Nat.{ℕ}
-use lib.IntN.{ℤ, pos, negsuc}
+use lib.IntN.{ℤ, pos, negℤ}
 use Rattle.logic.specs.declared.types.Reference.{Reference}
 use Rattle.logic.specs.declared.types.State.{State}
 use Rattle.logic.specs.declared.types.Formula.{Formula}
@@ -25,6 +25,9 @@ called x a = record { signals = x; nominal = a; first = none; second = none }
 abbrev pub referring : (kind target : ℕ) → State
 referring a t = record { signals = 0; nominal = 0; first = record { kind = a; target = t }; second = none }
 
+abbrev pub minus : ℕ → ℤ
+minus n = negℤ (pos n)
+
 -- ── Labels: the label of a formula of a table at a state of a log, as a dated number ──
 pub record Labelled : Type 0 where
   pub table : List Formula
@@ -40,7 +43,7 @@ two-ahead = record {
   states = plain 0 ∷ plain 1 ∷ plain 0 ∷ plain 0 ∷ [];
   formula = 2;
   state = 1;
-  expected = negsuc 253
+  expected = minus 254;
 }
 
 -- (`at 1` signal 0) `until` (`next` signal 1), where signal 1 is on in state 3, and state 4 carries nominal 1 and has signal 0
@@ -51,7 +54,7 @@ until-named i z = record {
   states = plain 0 ∷ plain 0 ∷ plain 2 ∷ called 1 1 ∷ [];
   formula = 4;
   state = i;
-  expected = z
+  expected = z;
 }
 
 -- `previous true` is false at the first state, which has none before it.
@@ -61,7 +64,7 @@ before-the-first = record {
   states = plain 0 ∷ [];
   formula = 1;
   state = 1;
-  expected = negsuc 255
+  expected = minus 256;
 }
 
 -- `some 2 true` at state 3: false without a reference, true with one of kind 2.
@@ -71,7 +74,7 @@ some-reference q z = record {
   states = plain 0 ∷ plain 0 ∷ q ∷ [];
   formula = 1;
   state = 3;
-  expected = z
+  expected = z;
 }
 
 -- `bind previous not variable`: the state before is another one, if there is one.
@@ -81,7 +84,7 @@ another-before i z = record {
   states = plain 0 ∷ plain 0 ∷ [];
   formula = 3;
   state = i;
-  expected = z
+  expected = z;
 }
 
 -- A log with a rule: when signal 0 is on (formula 0), signal 1 is expected at the next state (formula 2).
@@ -100,9 +103,9 @@ labels =
     two-ahead
     ∷ until-named 1 (pos 253) ∷ until-named 2 (pos 254) ∷ until-named 3 (pos 0) ∷ until-named 4 (pos 0)
     ∷ before-the-first
-    ∷ some-reference (plain 0) (negsuc 253) ∷ some-reference (referring 2 1) (pos 254)
-    ∷ another-before 1 (negsuc 255) ∷ another-before 2 (pos 255)
-    ∷ content 1 (pos 255) ∷ content 2 (negsuc 253) ∷ content 3 (pos 0)
+    ∷ some-reference (plain 0) (minus 254) ∷ some-reference (referring 2 1) (pos 254)
+    ∷ another-before 1 (minus 256) ∷ another-before 2 (pos 255)
+    ∷ content 1 (pos 255) ∷ content 2 (minus 254) ∷ content 3 (pos 0)
     ∷ []
 
 -- ── Raisings: at which states a condition raises an expectation ──
@@ -119,7 +122,7 @@ looking-ahead = record {
   table = Signal 0 ∷ Next 0 ∷ [];
   states = plain 1 ∷ plain 1 ∷ [];
   condition = 1;
-  raised = false ∷ false ∷ []
+  raised = false ∷ false ∷ [];
 }
 
 -- The rule's own condition, signal 0, raises at the states that have it on.
@@ -142,7 +145,7 @@ second-refers t unfit = record {
   states = plain 0 ∷ referring 1 t ∷ [];
   state = 2;
   nominal-taken = false;
-  reference-unfit = unfit
+  reference-unfit = unfit;
 }
 
 abbrev pub offers : List Offered

@@ -16,5 +16,5 @@ returns c =
     record {
       alike = λ e. eq-eqb _ _ (ap (ofZ w16) e);
       number = λ e. sym (toZ-ofZ w16 x fits) ∙ ap (toZ w16) (eqb-true _ _ e) ∙ toZ-ofZ w16 y fits′;
-      meaning = λ same. eq-eqb _ _ (ap (ofZ w16) (number-by-meaning x y (c .args .a .low) (c .args .a .high) (c .args .b .low) (c .args .b .high) same))
+      meaning = λ same. eq-eqb _ _ (ap (ofZ w16) (number-by-meaning x y (c .args .a .low) (c .args .a .high) (c .args .b .low) (c .args .b .high) same));
     }

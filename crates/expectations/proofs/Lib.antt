@@ -1,0 +1,9 @@
+pub mod Counts
+pub mod Labels
+pub mod Places
+pub mod Told
+pub mod Order
+pub mod Once
+pub mod Standings
+pub mod Stays
+pub mod Apart

@@ -1,0 +1,3 @@
+pub mod Expectations
+pub mod Words
+pub mod Laws

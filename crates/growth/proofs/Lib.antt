@@ -1,0 +1,3 @@
+pub mod Told
+pub mod Agreeing
+pub mod Growing

@@ -1,6 +1,0 @@
-use native.Mathlib.Omega.{arith}
-use lib.ListN.{length-take}
-use Rattle.records.proofs.cut.kept_of.Needs as need
-
-pub returns : need.returns
-returns c = λ xs e. simp length-take (omega arith)

@@ -1,0 +1,4 @@
+pub mod Keeping
+pub mod Bits
+pub mod Strips
+pub mod Comparing
