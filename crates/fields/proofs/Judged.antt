@@ -59,11 +59,14 @@ module _ (K : Kind) (text line : List ℕ) where
   refused rest place (fault.Form at) f (p, none) = (p, (line, rest, f, none))
   refused rest place (fault.Range at) f (p, (v, e, g, out)) = (p, (v, rest, record { line = line-as rest v f e; formed = g }, out))
 
-  pub taken : (v : K .Value) → FirstLine text line (drop (length line + 1) text) → TakesLine K line v → Takes K text v (length line + 1)
-  taken v f t = record {
-    fits = record { shows = record { line = line-as (drop (length line + 1) text) v f (t .shows); formed = t .formed }; ranged = t .ranged };
-    within = omega (arith, ap length (f .shows), length-append line (10 ∷ drop (length line + 1) text));
-  }
+  pub taken : (v : K .Value) (used : ℕ) → FirstLine text line (drop (length line + 1) text) → TakesLine K line v → used ≡ length line + 1 → Takes K text v used
+  taken v used f t e =
+      let w : length line + 1 ≤ length text = omega (arith, ap length (f .shows), length-append line (10 ∷ drop (length line + 1) text)) in
+      subst (Takes K text v) (sym e)
+      (record {
+        fits = record { shows = record { line = line-as (drop (length line + 1) text) v f (t .shows); formed = t .formed }; ranged = t .ranged };
+        within = w;
+      })
 
 -- the rest of a text, as `&text[at..]` has it
 abbrev pub rest-from : (text : List ℕ) (at : ℕ) → List ℕ

@@ -34,3 +34,10 @@ pub fn first_line(text: &[u8], place: usize) -> Result<&[u8], LineFault>
         None => Err(LineFault::Torn(place)),
     }
 }
+
+// How many bytes a line takes with the byte that ends it.
+pub fn bytes_of(line: &[u8]) -> usize
+    ensures { λ r. ⌜ r ≡ length (now (line .entry)) + 1 ⌝ }
+{
+    line.len() + 1
+}

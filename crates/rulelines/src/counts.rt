@@ -8,6 +8,7 @@ ghost use Rattle.fields.specs.Lines.{Small, field};
 ghost use Rattle.fields.specs.Kinds.{Takes, Refuses, TakesLine, RefusesLine};
 ghost use Rattle.rulelines.specs.Counts.{countKind};
 use faults::line::LineFault;
+use fields::lines::bytes_of;
 use fields::lines::first_line;
 use fields::values::number_under;
 use keys::CountKey;
@@ -56,6 +57,6 @@ pub fn read_count(
     let count = judge(line, place, key, most)?;
     Ok(CountLine {
         count,
-        used: line.len() + 1,
+        used: bytes_of(line),
     })
 }

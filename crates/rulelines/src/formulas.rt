@@ -8,6 +8,7 @@ use crate::entries::entry_of;
 use crate::operands::formula_of;
 use crate::operands::in_range;
 use faults::line::LineFault;
+use fields::lines::bytes_of;
 use fields::lines::first_line;
 use logic::types::Formula;
 
@@ -39,6 +40,6 @@ pub fn read_formula(text: &[u8], place: usize, k: usize) -> Result<FormulaLine, 
     let formula = formula_of(v.operator, v.a, v.b);
     Ok(FormulaLine {
         formula,
-        used: line.len() + 1,
+        used: bytes_of(line),
     })
 }

@@ -4,6 +4,7 @@ ghost use Rattle.std.specs.Results.{Cases};
 ghost use Rattle.fields.specs.Kinds.{Takes, TakesLine, Refuses, RefusesLine, ShowsNone};
 ghost use Rattle.rulelines.specs.Rules.{Formed, Ranged, ruleLine, ruleKind, ruleOf};
 use faults::line::LineFault;
+use fields::lines::bytes_of;
 use fields::lines::first_line;
 use fields::numbers::NUMBER_LIMIT;
 use fields::values::number_under;
@@ -75,6 +76,6 @@ pub fn read_rule(text: &[u8], place: usize, k: usize) -> Result<RuleLine, LineFa
     let rule = judge(line, place, k)?;
     Ok(RuleLine {
         rule,
-        used: line.len() + 1,
+        used: bytes_of(line),
     })
 }

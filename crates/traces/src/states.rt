@@ -8,6 +8,7 @@ ghost use Rattle.traces.specs.Shown.{stateOf, Judged};
 use crate::numbers::Numbers;
 use crate::numbers::numbers_of;
 use faults::line::LineFault;
+use fields::lines::bytes_of;
 use fields::lines::first_line;
 use fields::numbers::NUMBER_LIMIT;
 use logic::types::Reference;
@@ -81,6 +82,6 @@ pub fn read_state(text: &[u8], count: usize) -> Result<StateLine, LineFault>
     let state = judge(line, count)?;
     Ok(StateLine {
         state,
-        used: line.len() + 1,
+        used: bytes_of(line),
     })
 }

@@ -12,4 +12,4 @@ returns-in-Break-count c =
 pub returns : need.returns
 returns c =
     taken (countKind (countText (c .args .key)) (c .args .most)) (c .args .text .now) (c .in-Continue-line .line .now) (c .in-Continue-count .count)
-    (c .in-Continue-line .ensures tt) (c .in-Continue-count .ensures tt)
+    _ (c .in-Continue-line .ensures tt) (c .in-Continue-count .ensures tt) (c .bytes-of .ensures)

@@ -11,6 +11,6 @@ returns-in-Break-v c =
 pub returns : need.returns
 returns c = (
   c .in-Continue-v .v,
-  taken (formulaKind (c .args .k)) (c .args .text .now) (c .in-Continue-line .line .now) (c .in-Continue-v .v) (c .in-Continue-line .ensures tt) (c .in-Continue-v .ensures tt),
+  taken (formulaKind (c .args .k)) (c .args .text .now) (c .in-Continue-line .line .now) (c .in-Continue-v .v) _ (c .in-Continue-line .ensures tt) (c .in-Continue-v .ensures tt) (c .bytes-of .ensures),
   c .formula-of-formula .ensures,
 )

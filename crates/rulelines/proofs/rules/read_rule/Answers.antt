@@ -11,4 +11,4 @@ returns-in-Break-rule c =
 pub returns : need.returns
 returns c =
     taken (ruleKind (c .args .k)) (c .args .text .now) (c .in-Continue-line .line .now) (c .args .k, c .in-Continue-rule .rule)
-    (c .in-Continue-line .ensures tt) (c .in-Continue-rule .ensures tt)
+    _ (c .in-Continue-line .ensures tt) (c .in-Continue-rule .ensures tt) (c .bytes-of .ensures)

@@ -12,4 +12,4 @@ returns-in-Break-state c =
 pub returns : need.returns
 returns c =
     taken (traceKind (c .args .count)) (c .args .text .now) (c .in-Continue-line .line .now) (c .args .count + 1, c .in-Continue-state .state)
-    (c .in-Continue-line .ensures tt) (c .in-Continue-state .ensures tt)
+    _ (c .in-Continue-line .ensures tt) (c .in-Continue-state .ensures tt) (c .bytes-of .ensures)
