@@ -1,0 +1,50 @@
+// Whether the two kinds of label tell the same of a log.
+use labelling::whole::label_whole;
+use labels::LabelKind;
+use labels::dated::Dated;
+use labels::dated::DatedKind;
+use logic::types::State;
+use records::rows::Rows;
+use records::rows::RowsReadable;
+use strips::Strip;
+use strips::StripKind;
+use table::finished::Table;
+
+// The last truncation point that both kinds tell of.
+const POINTS: usize = 64;
+
+// Whether two labels have the same readings at every point up to 64.
+fn same_readings<A: LabelKind + Copy, B: LabelKind + Copy>(a: A, b: B) -> bool {
+    for place in 0..POINTS {
+        let point = place + 1;
+        if a.read(true, point) != b.read(true, point) || a.read(false, point) != b.read(false, point) {
+            return false;
+        }
+    }
+    true
+}
+
+// Whether the labels of two lists have the same readings, one by one.
+fn same_labels<A: LabelKind + Copy, B: LabelKind + Copy>(first: &[A], second: &[B]) -> bool {
+    if first.len() != second.len() {
+        return false;
+    }
+    for k in 0..first.len() {
+        if !same_readings(first[k], second[k]) {
+            return false;
+        }
+    }
+    true
+}
+
+// Labels the log in both kinds. Cells without a label are unknown in both.
+pub fn kinds_agree(table: &Table, log: &[State]) -> bool {
+    let mut dated = [Dated::unknown(); 96];
+    let mut dated_work = [Dated::unknown(); 96];
+    let mut strips = [Strip::unknown(); 96];
+    let mut strip_work = [Strip::unknown(); 96];
+    let record = Rows::new(log);
+    let in_dates = label_whole(table, &record, &mut dated, &mut dated_work);
+    let in_strips = label_whole(table, &record, &mut strips, &mut strip_work);
+    in_dates.is_ok() && in_strips.is_ok() && same_labels(&dated, &strips)
+}
