@@ -1,4 +1,8 @@
 // Whether the two kinds of label tell the same of a log.
+ghost use mathlib.Core.Path.{_≡_};
+ghost use mathlib.Core.Bool.{Bool, true};
+ghost use Prim.Native.Nat.{_<_, _≤_};
+ghost use Rattle.labels.specs.Readings.{Same};
 use labelling::whole::label_whole;
 use labels::LabelKind;
 use labels::dated::Dated;
@@ -13,11 +17,23 @@ use table::finished::Table;
 // The last truncation point that both kinds tell of.
 const POINTS: usize = 64;
 
-// Whether two labels have the same readings at every point up to 64.
-fn same_readings<A: LabelKind + Copy, B: LabelKind + Copy>(a: A, b: B) -> bool {
+// Whether two labels have the same readings at a point.
+fn same_at<A: LabelKind + Copy, B: LabelKind + Copy>(a: A, b: B, point: usize) -> bool
+    ensures told { λ r. ⌜ (0 < point → point ≤ A·LabelKind .reach → point ≤ B·LabelKind .reach → r ≡ true → (e : Bool) → A·LabelKind .reads a e point ≡ B·LabelKind .reads b e point) ⌝ }
+    ensures found { λ r. ⌜ (0 < point → point ≤ A·LabelKind .reach → point ≤ B·LabelKind .reach → ((e : Bool) → A·LabelKind .reads a e point ≡ B·LabelKind .reads b e point) → r ≡ true) ⌝ }
+{
+    let weak = a.read(true, point) == b.read(true, point);
+    let strong = a.read(false, point) == b.read(false, point);
+    weak && strong
+}
+
+// Whether two labels have the same readings at every point up to 64, where both kinds tell of these points.
+fn same_readings<A: LabelKind + Copy, B: LabelKind + Copy>(a: A, b: B) -> bool
+    ensures told { λ r. ⌜ (64 ≤ A·LabelKind .reach → 64 ≤ B·LabelKind .reach → r ≡ true → Same 64 (A·LabelKind .reads a) (B·LabelKind .reads b)) ⌝ }
+    ensures found { λ r. ⌜ (64 ≤ A·LabelKind .reach → 64 ≤ B·LabelKind .reach → Same 64 (A·LabelKind .reads a) (B·LabelKind .reads b) → r ≡ true) ⌝ }
+{
     for place in 0..POINTS {
-        let point = place + 1;
-        if a.read(true, point) != b.read(true, point) || a.read(false, point) != b.read(false, point) {
+        if !same_at(a, b, place + 1) {
             return false;
         }
     }
