@@ -2,7 +2,9 @@
 ghost use mathlib.Core.Path.{_≡_};
 ghost use mathlib.Core.Bool.{Bool, true};
 ghost use Prim.Native.Nat.{_<_, _≤_};
+ghost use lib.ListN.{length};
 ghost use Rattle.labels.specs.Readings.{Same};
+ghost use Rattle.kinds_agree.specs.Sames.{SameTo};
 use labelling::whole::label_whole;
 use labels::LabelKind;
 use labels::dated::Dated;
@@ -41,7 +43,10 @@ fn same_readings<A: LabelKind + Copy, B: LabelKind + Copy>(a: A, b: B) -> bool
 }
 
 // Whether the labels of two lists have the same readings, one by one.
-fn same_labels<A: LabelKind + Copy, B: LabelKind + Copy>(first: &[A], second: &[B]) -> bool {
+fn same_labels<A: LabelKind + Copy, B: LabelKind + Copy>(first: &[A], second: &[B]) -> bool
+    ensures lengths { λ r. ⌜ (r ≡ true → length (now (first .entry)) ≡ length (now (second .entry))) ⌝ }
+    ensures told { λ r. ⌜ (64 ≤ A·LabelKind .reach → 64 ≤ B·LabelKind .reach → r ≡ true → SameTo (A·LabelKind .reads) (B·LabelKind .reads) (now (first .entry)) (now (second .entry)) (length (now (first .entry)))) ⌝ }
+{
     if first.len() != second.len() {
         return false;
     }

@@ -1,6 +1,7 @@
 // The small logs, by number.
 ghost use mathlib.Core.Path.{_≡_};
-ghost use lib.ListN.{length};
+ghost use Prim.Native.Nat.{_/_, _%_};
+ghost use lib.ListN.{length, getD};
 use logic::types::Reference;
 use logic::types::State;
 use records::readable::NO_REFERENCE;
@@ -8,7 +9,10 @@ use records::readable::NO_REFERENCE;
 // The signals of the states are the lowest digits of k in base 4, the next digit is the state with nominal 1, or 0 for none,
 // and the next one is the reference of the last state.
 pub fn numbered_log(k: usize) -> [State; 3]
-    ensures { λ r. ⌜ length r ≡ 3 ⌝ }
+    ensures count { λ r. ⌜ length r ≡ 3 ⌝ }
+    ensures first { λ r. ⌜ ((d : State) → getD r 0 d .signals ≡ k % 4) ⌝ }
+    ensures second { λ r. ⌜ ((d : State) → getD r 1 d .signals ≡ k / 4 % 4) ⌝ }
+    ensures third { λ r. ⌜ ((d : State) → getD r 2 d .signals ≡ k / 16 % 4) ⌝ }
 {
     let named = k / 64 % 4;
     let third = reference(k / 256 % 4);
