@@ -73,7 +73,10 @@ pub fn has_labels(formulas: &[Formula], log: &[State], expected: &[i16]) -> Resu
     let mut labels = [Dated::true_from(9); 64];
     let mut work = [Dated::true_from(9); 64];
     let n = log.len();
-    check_eq(outcome(label_whole(&table, &Rows::new(log), &mut labels, &mut work)).0, 0)?;
+    check_eq(
+        outcome(label_whole(&table, &Rows::new(log), &mut labels, &mut work)).0,
+        0,
+    )?;
     check(n == expected.len() && n <= 64 && formulas.len() <= 64 && formulas.len() > 0)?;
     for place in 0..n {
         let at = (formulas.len() - 1) * n + place;

@@ -20,7 +20,12 @@ fn tried(log: &[State], cells: usize, room: usize) -> Result<(u8, usize), Fail> 
     let mut labels = [Dated::true_from(9); 8];
     let mut work = [Dated::true_from(9); 8];
     check(cells <= 8 && room <= 8)?;
-    Ok(outcome(label_whole(&table, &Rows::new(log), &mut labels[0..cells], &mut work[0..room])))
+    Ok(outcome(label_whole(
+        &table,
+        &Rows::new(log),
+        &mut labels[0..cells],
+        &mut work[0..room],
+    )))
 }
 
 #[test]
@@ -29,8 +34,14 @@ fn length_of_strips() -> Result<(), Fail> {
     let log = [plain(0); 65];
     let mut labels = [Strip::unknown(); 65];
     let mut work = [Strip::unknown(); 65];
-    check_eq(outcome(label_whole(&table, &Rows::new(&log), &mut labels, &mut work)), (7, 0))?;
-    check_eq(outcome(label_whole(&table, &Rows::new(&log[0..64]), &mut labels, &mut work)), (0, 64))?;
+    check_eq(
+        outcome(label_whole(&table, &Rows::new(&log), &mut labels, &mut work)),
+        (7, 0),
+    )?;
+    check_eq(
+        outcome(label_whole(&table, &Rows::new(&log[0..64]), &mut labels, &mut work)),
+        (0, 64),
+    )?;
     check(!labels[63].read(true, 64) && labels[63].read(true, 63) && labels[64].read(true, 64))
 }
 
@@ -40,8 +51,14 @@ fn length_of_dates() -> Result<(), Fail> {
     let log = [plain(0); 257];
     let mut labels = [Dated::unknown(); 257];
     let mut work = [Dated::unknown(); 257];
-    check_eq(outcome(label_whole(&table, &Rows::new(&log), &mut labels, &mut work)), (7, 0))?;
-    check_eq(outcome(label_whole(&table, &Rows::new(&log[0..256]), &mut labels, &mut work)), (0, 256))?;
+    check_eq(
+        outcome(label_whole(&table, &Rows::new(&log), &mut labels, &mut work)),
+        (7, 0),
+    )?;
+    check_eq(
+        outcome(label_whole(&table, &Rows::new(&log[0..256]), &mut labels, &mut work)),
+        (0, 256),
+    )?;
     check(labels[255].value() == -1 && labels[256].value() == 0)
 }
 
@@ -71,7 +88,10 @@ fn first_refusal() -> Result<(), Fail> {
     };
     check_eq(tried(&[named(0, 3), both], 3, 8)?, (9, 0))?;
     check_eq(tried(&[named(0, 3), both], 8, 8)?, (10, 2))?;
-    check_eq(tried(&[named(0, 3), referring(0, 2, 2), named(0, 3)], 8, 8)?, (11, 2))?;
+    check_eq(
+        tried(&[named(0, 3), referring(0, 2, 2), named(0, 3)], 8, 8)?,
+        (11, 2),
+    )?;
     check_eq(tried(&[both; 257], 0, 0)?, (7, 0))
 }
 
@@ -81,7 +101,10 @@ fn memory_after_refusal() -> Result<(), Fail> {
     let log = [named(0, 3), named(0, 3)];
     let mut labels = [Dated::true_from(9); 4];
     let mut work = [Dated::false_from(9); 4];
-    check_eq(outcome(label_whole(&table, &Rows::new(&log), &mut labels, &mut work)), (10, 2))?;
+    check_eq(
+        outcome(label_whole(&table, &Rows::new(&log), &mut labels, &mut work)),
+        (10, 2),
+    )?;
     has_values(&labels, &[248, 248, 248, 248])?;
     has_values(&work, &[-248, -248, -248, -248])
 }
