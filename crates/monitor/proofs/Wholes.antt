@@ -51,3 +51,18 @@ whole-agrees reads reach b room xs old oldWork new newWork (Ok n) a ok f i c v t
     kinds-agree reads reach (tableOf b) xs f i (done .short .0) (done .lawful) (p .state-from) (p .state-to) (getD new (place (length xs) f i) d)
     (done .labels f i within (p .state-from) (p .state-to) d .0 (p .is-closed) 0) c (omega (arith, p .state-from, p .point-from)) (omega (arith, p .point-to, done .short .1)) (omega (arith, p .point-to, done .short .0)) r
     ∙ ap (λ w. readAs w r) (asked .1)
+
+-- over a foreign record it is declined as such, and nothing changes
+pub foreign-whole : {K : Type 0} (reads : K → Reading) (reach own : ℕ) (table : List Formula) (xs : List State) (old oldWork new newWork : List K) (r : Result ℕ Refusal)
+    → (own ≡ length xs → ⊥) → WholeAnswered reads reach own table xs old oldWork r new newWork → (r ≡ Err refusal.ForeignRecord) × (new ≡ old) × (newWork ≡ oldWork)
+foreign-whole reads reach own table xs old oldWork new newWork (Ok n) apart a = absurd (apart (a .0))
+foreign-whole reads reach own table xs old oldWork new newWork (Err refusal.ForeignRecord) apart a = (refl, a .1, a .2)
+foreign-whole reads reach own table xs old oldWork new newWork (Err refusal.TooManyStates) apart a = absurd (apart (a .0 .0))
+foreign-whole reads reach own table xs old oldWork new newWork (Err refusal.RecordFull) apart a = absurd (a .0)
+foreign-whole reads reach own table xs old oldWork new newWork (Err refusal.MemoryTooShort) apart a = absurd (apart (a .0 .0))
+foreign-whole reads reach own table xs old oldWork new newWork (Err (refusal.NominalTaken i)) apart a = absurd (apart (a .0 .0))
+foreign-whole reads reach own table xs old oldWork new newWork (Err (refusal.ReferenceUnfit i)) apart a = absurd (apart (a .0 .0))
+foreign-whole reads reach own table xs old oldWork new newWork (Err refusal.NoSuchName) apart a = absurd (a .0)
+foreign-whole reads reach own table xs old oldWork new newWork (Err refusal.LooseFormula) apart a = absurd (a .0)
+foreign-whole reads reach own table xs old oldWork new newWork (Err refusal.NoSuchState) apart a = absurd (a .0)
+foreign-whole reads reach own table xs old oldWork new newWork (Err refusal.NoSuchPoint) apart a = absurd (a .0)

@@ -6,6 +6,7 @@ ghost use mathlib.Core.List.{[], _∷_, _++_};
 ghost use Prim.Native.Nat.{ℕ, _+_, _≤_, _<_};
 ghost use lib.ListN.{length, getD};
 ghost use Rattle.std.specs.shelf.Maps.{nth};
+ghost use Rattle.std.specs.Orderings.{Decides};
 ghost use Rattle.std.specs.Results.{isOk};
 ghost use Rattle.std.specs.declared.option.Option.the-variants.{None};
 ghost use Rattle.expectations.specs.Expectations.{verdict, standing as standingOf, tallied, notices, noRule};
@@ -194,15 +195,31 @@ impl<R: Growing> Monitor<R> {
         &self.log
     }
 
+    // Whether the record's count is the monitor's.
+    fn is_own(&self) -> bool
+        ensures { λ r. ⌜ Decides r (now (self .entry) .book .count ≡ length (R·Readable .states (now (self .entry) .log))) ⌝ }
+    {
+        self.log.count() == self.book.count
+    }
+
+    // Labels the record whole, where its count is the monitor's.
+    fn label_own<K: LabelKind + Copy>(&self, labels: &mut [K], work: &mut [K]) -> Result<usize, Refusal>
+        requires { ⌜ now self .book .count ≡ length (R·Readable .states (now self .log)) ⌝ }
+        ensures whole { λ r. ⌜ WholeAnswered reads reach (now (self .entry) .book .count) (tableOf (now (self .entry) .book)) (R·Readable .states (now (self .entry) .log)) (now (labels .entry)) (now (work .entry)) r (now (labels .exit)) (now (work .exit)) ⌝ }
+        ensures agrees { λ r. ⌜ (isOk r ≡ true → Agrees reads (groundOf (now (self .entry) .book) (R·Growing .room (now (self .entry) .log))) (R·Readable .states (now (self .entry) .log)) (now (labels .exit))) ⌝ }
+    {
+        label_whole(&self.book.table, &self.log, labels, work)
+    }
+
     // Labels the whole record in any kind of label, into memory that is handed in, and answers the number of states. The
     // labels are those that the monitor itself answers with.
     pub fn label_record<K: LabelKind + Copy>(&self, labels: &mut [K], work: &mut [K]) -> Result<usize, Refusal>
         ensures whole { λ r. ⌜ WholeAnswered reads reach (now (self .entry) .book .count) (tableOf (now (self .entry) .book)) (R·Readable .states (now (self .entry) .log)) (now (labels .entry)) (now (work .entry)) r (now (labels .exit)) (now (work .exit)) ⌝ }
         ensures agrees { λ r. ⌜ (isOk r ≡ true → Agrees reads (groundOf (now (self .entry) .book) (R·Growing .room (now (self .entry) .log))) (R·Readable .states (now (self .entry) .log)) (now (labels .exit))) ⌝ }
     {
-        if self.log.count() != self.book.count {
+        if !self.is_own() {
             return Err(Refusal::ForeignRecord);
         }
-        label_whole(&self.book.table, &self.log, labels, work)
+        self.label_own(labels, work)
     }
 }

@@ -5,7 +5,7 @@ ghost use Prim.Native.Nat.{ℕ, _≤_, _<_};
 ghost use lib.ListN.{length, drop};
 ghost use Rattle.std.specs.Results.{isOk};
 ghost use Rattle.std.specs.declared.result.Result.the-variants.{Ok, Err};
-ghost use Rattle.refusals.specs.declared.Refusal.the-variants.{MemoryTooShort};
+ghost use Rattle.refusals.specs.declared.Refusal.the-variants.{ForeignRecord, MemoryTooShort};
 ghost use Rattle.table.specs.Tables.{formulasOf, rulesOf};
 ghost use Rattle.answers.specs.declared.types.Answer.the-variants.{Number, Reads, Stands, Counts};
 ghost use Rattle.answers.specs.Answers.{replied, toldNotice};
@@ -121,11 +121,11 @@ pub struct Outcome<R: Growing> {
 // Carries out any list of calls on a new monitor over a table and a record, writes their answers, and then labels the
 // record whole in any kind of label. Memory for fewer answers than calls is refused, and nothing is called.
 pub fn run<K: LabelKind + Copy, R: Growing>(table: Table, log: R, calls: &[Call], answers: &mut [Answer], labels: &mut [K], work: &mut [K]) -> Outcome<R>
-    ensures refused { λ o. ⌜ (length (now (answers .entry)) < length (now (calls .entry)) → (o .answered ≡ Err MemoryTooShort) × (o .monitor .log ≡ log) × (now (answers .exit) ≡ now (answers .entry)) × (now (labels .exit) ≡ now (labels .entry)) × (now (work .exit) ≡ now (work .entry))) ⌝ }
+    ensures refused { λ o. ⌜ (length (now (answers .entry)) < length (now (calls .entry)) → (o .answered ≡ Err MemoryTooShort) × (o .labelled ≡ Err MemoryTooShort) × (o .monitor .log ≡ log) × (now (answers .exit) ≡ now (answers .entry)) × (now (labels .exit) ≡ now (labels .entry)) × (now (work .exit) ≡ now (work .entry))) ⌝ }
     ensures answered { λ o. ⌜ (length (now (calls .entry)) ≤ length (now (answers .entry)) → o .answered ≡ Ok (length (now (calls .entry)))) ⌝ }
     ensures ran { λ o. ⌜ (length (now (calls .entry)) ≤ length (now (answers .entry)) → Ran (ground (formulasOf (table .draft)) (rulesOf (table .draft)) (R·Growing .room log)) (R·Readable .states log) (now (calls .entry)) (now (answers .exit)) (R·Readable .states (o .monitor .log))) ⌝ }
     ensures later { λ _. ⌜ drop (length (now (calls .entry))) (now (answers .exit)) ≡ drop (length (now (calls .entry))) (now (answers .entry)) ⌝ }
-    ensures foreign { λ o. ⌜ (0 < length (R·Readable .states log) → o .monitor .log ≡ log) ⌝ }
+    ensures foreign { λ o. ⌜ (0 < length (R·Readable .states log) → (o .monitor .log ≡ log) × (o .monitor .book .count ≡ 0) × (now (labels .exit) ≡ now (labels .entry)) × (now (work .exit) ≡ now (work .entry)) × (length (now (calls .entry)) ≤ length (now (answers .entry)) → o .labelled ≡ Err ForeignRecord)) ⌝ }
     ensures judged { λ o. ⌜ (length (R·Readable .states log) ≡ 0 → Judged (ground (formulasOf (table .draft)) (rulesOf (table .draft)) (R·Growing .room log)) (R·Readable .states (o .monitor .log))) ⌝ }
     ensures meant { λ o. ⌜ (length (R·Readable .states log) ≡ 0 → Meant (ground (formulasOf (table .draft)) (rulesOf (table .draft)) (R·Growing .room log)) (R·Readable .states (o .monitor .log))) ⌝ }
     ensures whole { λ o. ⌜ (length (R·Readable .states log) ≡ 0 → length (now (calls .entry)) ≤ length (now (answers .entry)) → WholeAnswered reads reach (length (R·Readable .states (o .monitor .log))) (formulasOf (table .draft)) (R·Readable .states (o .monitor .log)) (now (labels .entry)) (now (work .entry)) (o .labelled) (now (labels .exit)) (now (work .exit))) ⌝ }

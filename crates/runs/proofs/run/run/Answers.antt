@@ -13,6 +13,7 @@ use Rattle.answers.proofs.Judging.{judged}
 use Rattle.answers.proofs.Accepting.{accepted-lawful, accepted-small, nothing-lawful}
 use Rattle.monitor.specs.declared.live.Monitor.{Monitor}
 use Rattle.monitor.specs.Whole.{WholeAnswered, Agrees}
+use Rattle.monitor.proofs.Wholes.{foreign-whole}
 use Rattle.runs.specs.Meant.{ground, Meant}
 use Rattle.runs.proofs.Founding.{founded, meant, empty}
 use Rattle.runs.proofs.run.run.Given as given
@@ -33,11 +34,11 @@ returns-then-answers-calls g c =
     let same = c .new-monitor .ensures .log in
     let none : length start ≡ 0 → g .R·Readable .states (c .new-monitor .result .log) ≡ [] = λ e. ap (g .R·Readable .states) same ∙ empty start e in
     record {
-      refused = λ _. (refl, same, refl, refl, refl);
+      refused = λ _. (refl, refl, same, refl, refl, refl);
       answered = λ h. absurd (omega arith);
       ran = λ h. absurd (omega arith);
       later = refl;
-      foreign = λ _. same;
+      foreign = λ _. (same, c .new-monitor .ensures .fresh, refl, refl, (λ h. absurd (omega arith)));
       judged = λ e. judged-empty (c .args .table) _ _ (none e);
       meant = λ e. meant-empty (c .args .table) _ _ (none e);
       whole = λ e h. absurd (omega arith);
@@ -68,7 +69,14 @@ returns g c =
       answered = λ _. refl;
       ran = λ _. said;
       later = all .later;
-      foreign = λ h. ap (λ (m : Monitor (g .R .Denot)). m .log) (all .foreign (subst (λ (l : g .R .Denot). 0 < length (states l)) (sym (new .log)) h)) ∙ new .log;
+      foreign = λ h.
+          let some : 0 < length (states (first .log)) = subst (λ (l : g .R .Denot). 0 < length (states l)) (sym (new .log)) h in
+          let same = all .foreign some in
+          let fresh : last .book .count ≡ 0 = ap (λ (m : Monitor (g .R .Denot)). m .book .count) same ∙ new .fresh in
+          let apart : last .book .count ≡ length ends → ⊥ =
+              subst (λ (m : Monitor (g .R .Denot)). m .book .count ≡ length (states (m .log)) → ⊥) (sym same) (λ e. omega (arith, new .fresh)) in
+          let whole = foreign-whole (g .K·LabelKind .reads) (g .K·LabelKind .reach) (last .book .count) (formulasOf (last .book .table .draft)) ends (c .args .labels .now) (c .args .work .now) (c .label-record-labelled .last .labels) (c .label-record-labelled .last .work) (c .label-record-labelled .result) apart (c .label-record-labelled .ensures .whole) in
+          (ap (λ (m : Monitor (g .R .Denot)). m .log) same ∙ new .log, fresh, whole .1, whole .2, (λ _. whole .0));
       judged = λ e.
           subst (Judged G) (sym (said .own-record e .0))
           (judged G (founded (formulasOf (t .draft)) (rulesOf (t .draft)) (room log)) (accepted G [] calls) (accepted-lawful G [] calls nothing-lawful) (accepted-small G [] calls (omega arith)));

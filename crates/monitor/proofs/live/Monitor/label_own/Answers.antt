@@ -1,7 +1,6 @@
-use native.Mathlib.Omega.{arith}
 use Rattle.monitor.specs.Book.{tableOf}
 use Rattle.monitor.proofs.Wholes.{whole-answered, whole-agrees}
-use Rattle.monitor.proofs.live.Monitor.label_record.Needs as need
+use Rattle.monitor.proofs.live.Monitor.label_own.Needs as need
 
 pub returns : need.returns
 returns g c =
@@ -9,6 +8,6 @@ returns g c =
     let xs = g .R·Readable .states (m .log) in
     let w = c .label-whole in
     record {
-      whole = whole-answered (g .K·LabelKind .reads) (g .K·LabelKind .reach) (m .book .count) (tableOf (m .book)) xs (c .args .labels .now) (c .args .work .now) (w .last .labels) (w .last .work) (omega arith) (w .result) (w .ensures);
+      whole = whole-answered (g .K·LabelKind .reads) (g .K·LabelKind .reach) (m .book .count) (tableOf (m .book)) xs (c .args .labels .now) (c .args .work .now) (w .last .labels) (w .last .work) (c .pre) (w .result) (w .ensures);
       agrees = whole-agrees (g .K·LabelKind .reads) (g .K·LabelKind .reach) (m .book) (g .R·Growing .room (m .log)) xs (c .args .labels .now) (c .args .work .now) (w .last .labels) (w .last .work) (w .result) (w .ensures);
     }
