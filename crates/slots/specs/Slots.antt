@@ -1,14 +1,16 @@
--- The table of the slot's rule, and where the labels stand.
+-- The table of the slot's rule, the log of a double free, and when an expectation is still violated.
 use mathlib.Core.Path.{_≡_}
 use mathlib.Core.List.{List, [], _∷_}
-use Prim.Native.Nat.{ℕ, _+_, _-_, _*_, _≤_, _<_}
-use lib.ListN.{length, getD}
+use Prim.Native.Nat.{ℕ, _<_, _^_}
 use Rattle.std.specs.declared.result.Result.{Result}
 use Rattle.std.specs.declared.result.Result.the-variants.{Ok, Err}
-use Rattle.labels.specs.declared.dated.Dated.{Dated}
+use Rattle.expectations.specs.declared.types.Standing.{Standing}
+use Rattle.expectations.specs.declared.types.Standing.the-variants.{NotRaised, Pending, Fulfilled, Violated}
 use Rattle.logic.specs.declared.types.Formula.{Formula}
 use Rattle.logic.specs.declared.types.Formula.the-variants.{Signal, Not, Until, Next}
+use Rattle.logic.specs.declared.types.Reference.{Reference}
 use Rattle.logic.specs.declared.types.Rule.{Rule}
+use Rattle.logic.specs.declared.types.State.{State}
 use Rattle.table.specs.Tables.{formulasOf, rulesOf}
 use Rattle.table.specs.declared.defects.Defect.{Defect}
 use Rattle.table.specs.declared.finished.Table.{Table}
@@ -26,7 +28,20 @@ abbrev pub SlotTable : Result Table Defect → Type 0
 SlotTable (Ok t) = (formulasOf (t .draft) ≡ slotFormulas) × (rulesOf (t .draft) ≡ slotRule ∷ [])
 SlotTable (Err why) = ⊥
 
--- x is the label of formula f at state i of n, where it has a cell
-abbrev pub LabelAt : (n : ℕ) → List Dated → (f i : ℕ) → Dated → Type 0
-LabelAt n cells f i x =
-    f < 64 → n ≤ 256 → 0 < i → i ≤ n → f * n + (i - 1) < length cells → (d : Dated) → x ≡ getD cells (f * n + (i - 1)) d
+abbrev pub noReference : Reference
+noReference = record { kind = 0; target = 0 }
+
+-- the state at which this signal alone is on
+abbrev pub shown : (signal : ℕ) → State
+shown signal = record { signals = 2 ^ signal; nominal = 0; first = noReference; second = noReference }
+
+-- at state 4 the slot is taken again before it was freed
+abbrev pub doubleFree : List State
+doubleFree = shown 0 ∷ shown 1 ∷ shown 0 ∷ shown 0 ∷ shown 1 ∷ shown 0 ∷ []
+
+-- the decision is dated before the truncation point
+abbrev pub ViolatedBefore : (point : ℕ) → Standing → Type 0
+ViolatedBefore point NotRaised = ⊥
+ViolatedBefore point Pending = ⊥
+ViolatedBefore point (Fulfilled date) = ⊥
+ViolatedBefore point (Violated date) = date < point

@@ -1,49 +1,31 @@
 // A request slot allocator. A free slot is taken, and freed before it is taken again; that is the rule. In this log a slot was
-// freed twice, so that the pool hands it out again at state 4 while its client of state 3 still has it.
-mod report;
+// freed twice, so that the pool hands it out again at state 4 while its client of state 3 still has it. The same story is told
+// over two kinds of record.
+mod log;
 mod rule;
+mod story;
 
-ghost use mathlib.Core.Path.{_≡_};
-ghost use Prim.Native.Nat.{_<_, _^_};
-use crate::report::print_report;
-use crate::rule::FREE;
-use crate::rule::TAKE;
+use crate::log::double_free;
 use crate::rule::slot_table;
-use labelling::whole::label_whole;
-use labels::LabelKind;
-use labels::dated::Dated;
-use labels::dated::DatedKind;
-use logic::types::State;
-use records::readable::NO_REFERENCE;
-use records::rows::Rows;
-use records::rows::RowsReadable;
+use crate::story::story;
+use records::change_record::ChangeGrowing;
+use records::change_record::ChangeReadable;
+use records::change_record::ChangeRecord;
+use records::readable::BLANK;
+use records::table::TableGrowing;
+use records::table::TableReadable;
+use records::table::TableRecord;
 use std::io;
-
-// The state at which this signal alone is on.
-fn showing(signal: u8) -> State
-    requires { ⌜ signal < 32 ⌝ }
-    ensures { λ r. ⌜ r .signals ≡ 2 ^ signal ⌝ }
-{
-    State {
-        signals: 1 << signal,
-        nominal: 0,
-        first: NO_REFERENCE,
-        second: NO_REFERENCE,
-    }
-}
 
 fn main(rt: LibcRuntime) -> io::Result<()> {
     let table = match slot_table() {
         Ok(table) => table,
         Err(defect) => return println!(rt, "refused={}", defect.number()),
     };
-    let take = showing(TAKE);
-    let free = showing(FREE);
-    let log = [take, free, take, take, free, take];
-    let mut labels = [Dated::unknown(); 128];
-    let mut work = [Dated::unknown(); 128];
-    match label_whole(&table, &Rows::new(&log), &mut labels, &mut work) {
-        Ok(n) => print_report(&rt, &table, n, &labels),
-        Err(refusal) => println!(rt, "refused={}", refusal.number()),
-    }
+    let log = double_free();
+    let mut rows = [BLANK; 8];
+    println!(rt, "record=table")?;
+    story(&rt, table, TableRecord::new(&mut rows), &log)?;
+    println!(rt, "record=changes")?;
+    story(&rt, table, ChangeRecord::new(), &log)
 }
