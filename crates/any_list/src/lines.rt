@@ -31,10 +31,7 @@ fn print_tally(rt: &LibcRuntime, tally: Tally) -> io::Result<()> {
     println!(
         rt,
         "raised={} fulfilled={} violated={} open={}",
-        tally.raised,
-        tally.fulfilled,
-        tally.violated,
-        tally.pending
+        tally.raised, tally.fulfilled, tally.violated, tally.pending
     )
 }
 
@@ -87,7 +84,13 @@ fn print_labels<K: LabelKind + Copy>(rt: &LibcRuntime, labels: &[K]) -> io::Resu
 }
 
 // Carries out the calls on a new monitor over the record, and prints their answers and the labels of the whole record.
-pub fn print_run<K: LabelKind + Copy, R: Growing + Drop>(rt: &LibcRuntime, table: Table, log: R, labels: &mut [K], work: &mut [K]) -> io::Result<()> {
+pub fn print_run<K: LabelKind + Copy, R: Growing + Drop>(
+    rt: &LibcRuntime,
+    table: Table,
+    log: R,
+    labels: &mut [K],
+    work: &mut [K],
+) -> io::Result<()> {
     let mut answers = [Answer::NoMore; 24];
     let outcome = run(table, log, &CALLS, &mut answers, labels, work);
     match outcome.answered {

@@ -32,7 +32,11 @@ fn print_notice(rt: &LibcRuntime, point: usize, notice: Notice) -> io::Result<()
     )
 }
 
-fn print_notices<R: Growing>(rt: &LibcRuntime, monitor: &Monitor<R>, point: usize) -> io::Result<()> {
+fn print_notices<R: Growing>(
+    rt: &LibcRuntime,
+    monitor: &Monitor<R>,
+    point: usize,
+) -> io::Result<()> {
     for k in 0..MOST_NOTICES {
         match monitor.notice(point, k) {
             Ok(Some(notice)) => print_notice(rt, point, notice)?,
@@ -53,12 +57,20 @@ fn violated_before(standing: Standing, point: usize) -> bool
     }
 }
 
-fn print_still_violated<R: Growing>(rt: &LibcRuntime, monitor: &Monitor<R>, point: usize) -> io::Result<()> {
+fn print_still_violated<R: Growing>(
+    rt: &LibcRuntime,
+    monitor: &Monitor<R>,
+    point: usize,
+) -> io::Result<()> {
     for from in 1..point {
         match monitor.standing(RULE, from, point) {
             Ok(standing) => {
                 if violated_before(standing, point) {
-                    println!(rt, "s={point} r={RULE} from={from} still {}", standing.word())?;
+                    println!(
+                        rt,
+                        "s={point} r={RULE} from={from} still {}",
+                        standing.word()
+                    )?;
                 }
             }
             Err(refusal) => return print_refusal(rt, refusal),
@@ -84,7 +96,12 @@ fn print_end<R: Growing>(rt: &LibcRuntime, monitor: &Monitor<R>) -> io::Result<(
 
 // Appends the states one by one. After each it prints the point's notices and which expectations are still violated, and in
 // the end the tally. A refused append ends it.
-pub fn story<R: Growing + Drop>(rt: &LibcRuntime, table: Table, log: R, states: &[State]) -> io::Result<()> {
+pub fn story<R: Growing + Drop>(
+    rt: &LibcRuntime,
+    table: Table,
+    log: R,
+    states: &[State],
+) -> io::Result<()> {
     let mut monitor = Monitor::new(table, log);
     for state in states {
         match monitor.append(*state) {
