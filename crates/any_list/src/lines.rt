@@ -53,7 +53,7 @@ fn print_answer(rt: &HostRuntime, answer: Answer) -> io::Result<()> {
 
 // What the last of the states reads of a label.
 fn read_last<K: LabelKind + Copy>(label: K) -> Verdict
-    ensures { 4 ≤ reach → result ≡ read (reads label true 4) (reads label false 4) }
+    ensures { 4 ≤ K.reach → result ≡ read (K.reads label true 4) (K.reads label false 4) }
 {
     if label.read(false, STATES) {
         Verdict::True

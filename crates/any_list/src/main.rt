@@ -1,6 +1,8 @@
 // Carries out one list of calls, refused ones among them, on a monitor over each kind of record, and prints each answer. Then
 // the whole record is labelled, in one kind of label and in the other. Over a record that holds a state beforehand every call
 // is refused.
+#![tactic(auto)]
+
 mod calls;
 mod lines;
 mod rule;

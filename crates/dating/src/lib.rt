@@ -1,5 +1,7 @@
 // Dated labels: one number for both readings of a formula at every truncation point. Each function is there for its
 // contract, which says a law of the labels.
+#![tactic(auto)]
+
 ghost use Rattle.dating.specs.Laws.{LabelsRead, LabelsHaveDates};
 
 // A formula's label gives both readings at every truncation point from 1 to 256.

@@ -1,5 +1,7 @@
 // Carries each log of a folder, NAME.log, through `watch`, and compares the output with the file NAME.out beside it. The folder
 // is the argument, or the one that it is run in.
+#![tactic(auto)]
+
 mod comparing;
 mod output;
 
@@ -23,7 +25,7 @@ fn log_names(rt: &HostRuntime, folder: &str) -> io::Result<Vec<String>> {
             names.push(String::from_str(rt.alloc(), name)?)?;
         }
     }
-    names.sort();
+    names.sort()?;
     Ok(names)
 }
 

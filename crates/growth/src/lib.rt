@@ -1,4 +1,6 @@
 // The labels of a table's formulas as a function of the states: what they mean, and how they grow with the record.
+#![tactic(auto)]
+
 ghost use Rattle.std.specs.Prelude.{◌≡◌};
 ghost use Rattle.growth.specs.Growth.{label_of_number};
 ghost use Rattle.growth.specs.Laws.{LabelsMean, LabelsAreSound, LabelsGrow, LabelsInOrder, CellsAreLabels, KindsAgree};
@@ -60,7 +62,7 @@ pub fn cells_are_labels() -> u8
 
 // Labels of every kind agree.
 pub fn kinds_agree<K: LabelKind>() -> u8
-    ensures { KindsAgree reads reach }
+    ensures { KindsAgree K.reads K.reach }
 {
     0
 }

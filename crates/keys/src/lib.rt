@@ -1,4 +1,6 @@
 // The keys of the texts' lines, recognised byte by byte.
+#![tactic(auto)]
+
 ghost use Rattle.std.specs.Prelude.{◌≡◌, ℕ, List, ◌++◌, MatchOption, ◌≢◌};
 ghost use Rattle.keys.specs.Keys.{count_text, trace_text, formula_text, rule_text, key_text};
 

@@ -1,4 +1,6 @@
 // Labels small logs in both kinds of label, and compares what they tell at every formula, state and truncation point.
+#![tactic(auto)]
+
 ghost use Rattle.std.specs.Prelude.{◌≤◌};
 
 mod compare;

@@ -26,10 +26,10 @@ fn label_bound<K: LabelKind + Copy, R: Readable>(
 )
     requires fit { OrderlyTable table.now × (m ≤ length table.now) × Cone table.now wanted.now m × (m ≤ length wanted.now) }
     requires room { m * n ≤ length cells.old }
-    requires lawful { LawfulTo n (state_at (states log.now)) }
-    requires known { ClosedTold reads reach n (state_at (states log.now)) table.now cells.old m }
+    requires lawful { LawfulTo n (state_at (R.states log.now)) }
+    requires known { ClosedTold K.reads K.reach n (state_at (R.states log.now)) table.now cells.old m }
     ensures rest { RestKept (m * n) cells.old cells.new }
-    ensures told { AllTold reads reach n (state_at (states log.now)) table.now wanted.now v cells.new m }
+    ensures told { AllTold K.reads K.reach n (state_at (R.states log.now)) table.now wanted.now v cells.new m }
 {
     for g in 0..m {
         if wanted[g] {
@@ -50,11 +50,11 @@ fn label_bind<K: LabelKind + Copy, R: Readable>(
 )
     requires fit { OrderlyTable table.now × (f < length table.now) × Cone table.now wanted.now f × (f ≤ length wanted.now) × (a < f) × Ready table.now wanted.now a }
     requires room { (f * n + n ≤ length cells.old) × (a * n + n ≤ f * n) }
-    requires lawful { LawfulTo n (state_at (states log.now)) }
-    requires known { ClosedTold reads reach n (state_at (states log.now)) table.now cells.old f }
+    requires lawful { LawfulTo n (state_at (R.states log.now)) }
+    requires known { ClosedTold K.reads K.reach n (state_at (R.states log.now)) table.now cells.old f }
     ensures rest { RestKept (f * n + n) cells.old cells.new }
-    ensures known { ClosedTold reads reach n (state_at (states log.now)) table.now cells.new f }
-    ensures told { (v : ℕ) → Tells reads reach n (state_at (states log.now)) v (bind (tree table.now a)) (row n f cells.new) }
+    ensures known { ClosedTold K.reads K.reach n (state_at (R.states log.now)) table.now cells.new f }
+    ensures told { (v : ℕ) → Tells K.reads K.reach n (state_at (R.states log.now)) v (bind (tree table.now a)) (row n f cells.new) }
 {
     for p in 0..n {
         label_bound(log, table, wanted, f, p + 1, n, cells);
@@ -79,11 +79,11 @@ fn label_through<K: LabelKind + Copy, R: Readable>(
 ) -> K
     requires fit { OrderlyTable table.now × (f < length table.now) × Cone table.now wanted.now f × (f ≤ length wanted.now) × (b < f) × (p < n) × Ready table.now wanted.now b }
     requires room { (f * n + n ≤ length cells.old) × (b * n + n ≤ f * n) }
-    requires lawful { LawfulTo n (state_at (states log.now)) }
-    requires known { ClosedTold reads reach n (state_at (states log.now)) table.now cells.old f }
+    requires lawful { LawfulTo n (state_at (R.states log.now)) }
+    requires known { ClosedTold K.reads K.reach n (state_at (R.states log.now)) table.now cells.old f }
     ensures rest { RestKept (f * n) cells.old cells.new }
-    ensures known { ClosedTold reads reach n (state_at (states log.now)) table.now cells.new f }
-    ensures told { (e : Bool) (c : ℕ) → 0 < c → c ≤ reach → Decides (reads result e c) ((reads so_far e c ≡ true) ⊎ Through (state_at (states log.now)) (tree table.now b) kind reference (p + 1) e (min c n)) }
+    ensures known { ClosedTold K.reads K.reach n (state_at (R.states log.now)) table.now cells.new f }
+    ensures told { (e : Bool) (c : ℕ) → 0 < c → c ≤ K.reach → Decides (K.reads result e c) ((K.reads so_far e c ≡ true) ⊎ Through (state_at (R.states log.now)) (tree table.now b) kind reference (p + 1) e (min c n)) }
 {
     if reference.kind != kind {
         return so_far;
@@ -105,11 +105,11 @@ fn label_some<K: LabelKind + Copy, R: Readable>(
 )
     requires fit { OrderlyTable table.now × (f < length table.now) × Cone table.now wanted.now f × (f ≤ length wanted.now) × (b < f) × (0 < kind) × Ready table.now wanted.now b }
     requires room { (f * n + n ≤ length cells.old) × (b * n + n ≤ f * n) }
-    requires lawful { LawfulTo n (state_at (states log.now)) }
-    requires known { ClosedTold reads reach n (state_at (states log.now)) table.now cells.old f }
+    requires lawful { LawfulTo n (state_at (R.states log.now)) }
+    requires known { ClosedTold K.reads K.reach n (state_at (R.states log.now)) table.now cells.old f }
     ensures rest { RestKept (f * n + n) cells.old cells.new }
-    ensures known { ClosedTold reads reach n (state_at (states log.now)) table.now cells.new f }
-    ensures told { (v : ℕ) → Tells reads reach n (state_at (states log.now)) v (some' kind (tree table.now b)) (row n f cells.new) }
+    ensures known { ClosedTold K.reads K.reach n (state_at (R.states log.now)) table.now cells.new f }
+    ensures told { (v : ℕ) → Tells K.reads K.reach n (state_at (R.states log.now)) v (some' kind (tree table.now b)) (row n f cells.new) }
 {
     for p in 0..n {
         let state = log.state(p + 1);
@@ -216,10 +216,10 @@ fn label_closed<K: LabelKind + Copy, R: Readable>(
 )
     requires fit { OrderlyTable table.now × (f < length table.now) × Flagged table.now flags.now (length table.now) × (length table.now ≤ length flags.now) × (loose table.now f ≡ false) × (length table.now ≤ 64) }
     requires room { f * n + n ≤ length cells.old }
-    requires lawful { LawfulTo n (state_at (states log.now)) }
-    requires known { ClosedTold reads reach n (state_at (states log.now)) table.now cells.old f }
+    requires lawful { LawfulTo n (state_at (R.states log.now)) }
+    requires known { ClosedTold K.reads K.reach n (state_at (R.states log.now)) table.now cells.old f }
     ensures rest { RestKept (f * n + n) cells.old cells.new }
-    ensures told { ClosedTold reads reach n (state_at (states log.now)) table.now cells.new (f + 1) }
+    ensures told { ClosedTold K.reads K.reach n (state_at (R.states log.now)) table.now cells.new (f + 1) }
 {
     let formula = table[f];
     match formula {
@@ -247,9 +247,9 @@ pub(crate) fn label_table<K: LabelKind + Copy, R: Readable>(
 )
     requires fit { OrderlyTable table.now × Flagged table.now flags.now (length table.now) × (length table.now ≤ length flags.now) × (length table.now ≤ 64) }
     requires room { length table.now * n ≤ length cells.old }
-    requires lawful { LawfulTo n (state_at (states log.now)) }
+    requires lawful { LawfulTo n (state_at (R.states log.now)) }
     ensures rest { RestKept (length table.now * n) cells.old cells.new }
-    ensures told { ClosedTold reads reach n (state_at (states log.now)) table.now cells.new (length table.now) }
+    ensures told { ClosedTold K.reads K.reach n (state_at (R.states log.now)) table.now cells.new (length table.now) }
 {
     for f in 0..table.len() {
         if !flags[f] {

@@ -35,7 +35,7 @@ fn refers(state: State, kind: u8, v: usize) -> bool
 // Whether a formula without parts holds in state i.
 fn holds_here<R: Readable>(log: &R, formula: Formula, v: usize, i: usize) -> bool
     requires { InRange formula }
-    ensures { Decides result (Here formula (state_at (states log.now) i) v i) }
+    ensures { Decides result (Here formula (state_at (R.states log.now) i) v i) }
 {
     match formula {
         Formula::True => true,
@@ -49,7 +49,7 @@ fn holds_here<R: Readable>(log: &R, formula: Formula, v: usize, i: usize) -> boo
 
 // The label that is decided from point i on.
 fn decided<K: LabelKind>(value: bool, i: usize) -> K
-    ensures { Same reach (reads result) (fixed i value) }
+    ensures { Same K.reach (K.reads result) (fixed i value) }
 {
     if value {
         K::true_from(i)
@@ -70,7 +70,7 @@ fn label_here<K: LabelKind + Copy, R: Readable>(
     requires known { InRange formula × (leaf formula ≡ true) }
     requires room { own + n ≤ length cells.old }
     ensures others { Elsewhere own n cells.old cells.new }
-    ensures told { (parts : ℕ → Tree) → Tells reads reach n (state_at (states log.now)) v (node formula parts) (part own n cells.new) }
+    ensures told { (parts : ℕ → Tree) → Tells K.reads K.reach n (state_at (R.states log.now)) v (node formula parts) (part own n cells.new) }
 {
     for p in 0..n {
         cells[own + p] = decided(holds_here(log, formula, v, p + 1), p + 1);
@@ -80,7 +80,7 @@ fn label_here<K: LabelKind + Copy, R: Readable>(
 // The place of the state that carries the nominal, or n if there is none.
 fn nominal_place<R: Readable>(log: &R, nominal: u8, n: usize) -> usize
     requires { 0 < nominal }
-    ensures { NominalPlace (state_at (states log.now)) n nominal result }
+    ensures { NominalPlace (state_at (R.states log.now)) n nominal result }
 {
     for p in 0..n {
         if log.state(p + 1).nominal == nominal {
@@ -101,10 +101,10 @@ pub(crate) fn label_row<K: LabelKind + Copy, R: Readable>(
 )
     requires fit { OrderlyTable table.now × (f < length table.now) × (binds (slice_index_or table.now f True) ≡ false) }
     requires room { f * n + n ≤ length cells.old }
-    requires lawful { LawfulTo n (state_at (states log.now)) }
-    requires parts { EachPart (λ g. Tells reads reach n (state_at (states log.now)) v (tree table.now g) (row n g cells.old)) (slice_index_or table.now f True) }
+    requires lawful { LawfulTo n (state_at (R.states log.now)) }
+    requires parts { EachPart (λ g. Tells K.reads K.reach n (state_at (R.states log.now)) v (tree table.now g) (row n g cells.old)) (slice_index_or table.now f True) }
     ensures others { Elsewhere (f * n) n cells.old cells.new }
-    ensures told { Tells reads reach n (state_at (states log.now)) v (tree table.now f) (row n f cells.new) }
+    ensures told { Tells K.reads K.reach n (state_at (R.states log.now)) v (tree table.now f) (row n f cells.new) }
 {
     let formula = table[f];
     match formula {

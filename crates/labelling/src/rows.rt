@@ -13,7 +13,7 @@ use labels::LabelKind;
 pub(crate) fn label_not<K: LabelKind + Copy>(n: usize, a: usize, own: usize, cells: &mut [K])
     requires apart { (a + n ≤ own) × (own + n ≤ length cells.old) }
     ensures others { Elsewhere own n cells.old cells.new }
-    ensures told { (s : Trace) (v : ℕ) (f : Tree) → Tells reads reach n s v f (part a n cells.old) → Tells reads reach n s v (not' f) (part own n cells.new) }
+    ensures told { (s : Trace) (v : ℕ) (f : Tree) → Tells K.reads K.reach n s v f (part a n cells.old) → Tells K.reads K.reach n s v (not' f) (part own n cells.new) }
 {
     for p in 0..n {
         cells[own + p] = cells[a + p].not();
@@ -29,7 +29,7 @@ pub(crate) fn label_and<K: LabelKind + Copy>(
 )
     requires apart { (a + n ≤ own) × (b + n ≤ own) × (own + n ≤ length cells.old) }
     ensures others { Elsewhere own n cells.old cells.new }
-    ensures told { (s : Trace) (v : ℕ) (f g : Tree) → Tells reads reach n s v f (part a n cells.old) → Tells reads reach n s v g (part b n cells.old) → Tells reads reach n s v (and' f g) (part own n cells.new) }
+    ensures told { (s : Trace) (v : ℕ) (f g : Tree) → Tells K.reads K.reach n s v f (part a n cells.old) → Tells K.reads K.reach n s v g (part b n cells.old) → Tells K.reads K.reach n s v (and' f g) (part own n cells.new) }
 {
     for p in 0..n {
         cells[own + p] = cells[a + p].and(cells[b + p]);
@@ -45,7 +45,7 @@ pub(crate) fn label_or<K: LabelKind + Copy>(
 )
     requires apart { (a + n ≤ own) × (b + n ≤ own) × (own + n ≤ length cells.old) }
     ensures others { Elsewhere own n cells.old cells.new }
-    ensures told { (s : Trace) (v : ℕ) (f g : Tree) → Tells reads reach n s v f (part a n cells.old) → Tells reads reach n s v g (part b n cells.old) → Tells reads reach n s v (or' f g) (part own n cells.new) }
+    ensures told { (s : Trace) (v : ℕ) (f g : Tree) → Tells K.reads K.reach n s v f (part a n cells.old) → Tells K.reads K.reach n s v g (part b n cells.old) → Tells K.reads K.reach n s v (or' f g) (part own n cells.new) }
 {
     for p in 0..n {
         cells[own + p] = cells[a + p].or(cells[b + p]);
@@ -55,7 +55,7 @@ pub(crate) fn label_or<K: LabelKind + Copy>(
 // The label at a place of the row that begins at place a, and unknown past its end.
 fn label_at<K: LabelKind + Copy>(n: usize, a: usize, p: usize, cells: &[K]) -> K
     requires { a + n ≤ length cells.now }
-    ensures { Same reach (reads result) (cell reads (part a n cells.now) p) }
+    ensures { Same K.reach (K.reads result) (cell K.reads (part a n cells.now) p) }
 {
     if p < n { cells[a + p] } else { K::unknown() }
 }
@@ -63,7 +63,7 @@ fn label_at<K: LabelKind + Copy>(n: usize, a: usize, p: usize, cells: &[K]) -> K
 pub(crate) fn label_next<K: LabelKind + Copy>(n: usize, a: usize, own: usize, cells: &mut [K])
     requires apart { (a + n ≤ own) × (own + n ≤ length cells.old) }
     ensures others { Elsewhere own n cells.old cells.new }
-    ensures told { (s : Trace) (v : ℕ) (f : Tree) → Tells reads reach n s v f (part a n cells.old) → Tells reads reach n s v (next f) (part own n cells.new) }
+    ensures told { (s : Trace) (v : ℕ) (f : Tree) → Tells K.reads K.reach n s v f (part a n cells.old) → Tells K.reads K.reach n s v (next f) (part own n cells.new) }
 {
     for p in 0..n {
         cells[own + p] = label_at(n, a, p + 1, cells);
@@ -73,7 +73,7 @@ pub(crate) fn label_next<K: LabelKind + Copy>(n: usize, a: usize, own: usize, ce
 pub(crate) fn label_previous<K: LabelKind + Copy>(n: usize, a: usize, own: usize, cells: &mut [K])
     requires apart { (a + n ≤ own) × (own + n ≤ length cells.old) }
     ensures others { Elsewhere own n cells.old cells.new }
-    ensures told { (s : Trace) (v : ℕ) (f : Tree) → Tells reads reach n s v f (part a n cells.old) → Tells reads reach n s v (previous f) (part own n cells.new) }
+    ensures told { (s : Trace) (v : ℕ) (f : Tree) → Tells K.reads K.reach n s v f (part a n cells.old) → Tells K.reads K.reach n s v (previous f) (part own n cells.new) }
 {
     let mut last = K::false_from(1);
     for p in 0..n {
@@ -91,7 +91,7 @@ pub(crate) fn label_until<K: LabelKind + Copy>(
 )
     requires apart { (a + n ≤ own) × (b + n ≤ own) × (own + n ≤ length cells.old) }
     ensures others { Elsewhere own n cells.old cells.new }
-    ensures told { (s : Trace) (v : ℕ) (f g : Tree) → Tells reads reach n s v f (part a n cells.old) → Tells reads reach n s v g (part b n cells.old) → Tells reads reach n s v (until f g) (part own n cells.new) }
+    ensures told { (s : Trace) (v : ℕ) (f g : Tree) → Tells K.reads K.reach n s v f (part a n cells.old) → Tells K.reads K.reach n s v g (part b n cells.old) → Tells K.reads K.reach n s v (until f g) (part own n cells.new) }
 {
     let mut next = K::unknown();
     for p in (0..n).rev() {
@@ -109,7 +109,7 @@ pub(crate) fn label_since<K: LabelKind + Copy>(
 )
     requires apart { (a + n ≤ own) × (b + n ≤ own) × (own + n ≤ length cells.old) }
     ensures others { Elsewhere own n cells.old cells.new }
-    ensures told { (s : Trace) (v : ℕ) (f g : Tree) → Tells reads reach n s v f (part a n cells.old) → Tells reads reach n s v g (part b n cells.old) → Tells reads reach n s v (since f g) (part own n cells.new) }
+    ensures told { (s : Trace) (v : ℕ) (f g : Tree) → Tells K.reads K.reach n s v f (part a n cells.old) → Tells K.reads K.reach n s v g (part b n cells.old) → Tells K.reads K.reach n s v (since f g) (part own n cells.new) }
 {
     let mut carried = K::false_from(1);
     for p in 0..n {
@@ -129,7 +129,7 @@ pub(crate) fn label_named<K: LabelKind + Copy>(
 )
     requires apart { (a + n ≤ own) × (own + n ≤ length cells.old) }
     ensures others { Elsewhere own n cells.old cells.new }
-    ensures told { (s : Trace) (v name : ℕ) (f : Tree) → LawfulTo n s → NominalPlace s n name place → Tells reads reach n s v f (part a n cells.old) → Tells reads reach n s v (at' name f) (part own n cells.new) }
+    ensures told { (s : Trace) (v name : ℕ) (f : Tree) → LawfulTo n s → NominalPlace s n name place → Tells K.reads K.reach n s v f (part a n cells.old) → Tells K.reads K.reach n s v (at' name f) (part own n cells.new) }
 {
     let there = label_at(n, a, place, cells);
     for p in 0..n {

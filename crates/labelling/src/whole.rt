@@ -21,7 +21,7 @@ use table::finished::Table;
 fn clear_cells<K: LabelKind + Copy>(n: usize, own: usize, cells: &mut [K])
     requires { own + n ≤ length cells.old }
     ensures others { Elsewhere own n cells.old cells.new }
-    ensures clear { Filled reads reach (λ q. opened) (part own n cells.new) n }
+    ensures clear { Filled K.reads K.reach (λ q. opened) (part own n cells.new) n }
 {
     for p in 0..n {
         cells[own + p] = K::unknown();
@@ -32,7 +32,7 @@ fn clear_cells<K: LabelKind + Copy>(n: usize, own: usize, cells: &mut [K])
 fn copy_cells<K: LabelKind + Copy>(n: usize, own: usize, source: &[K], cells: &mut [K])
     requires { (own + n ≤ length source.now) × (own + n ≤ length cells.old) }
     ensures others { Elsewhere own n cells.old cells.new }
-    ensures same { Filled reads reach (λ q. cell reads (part own n source.now) q) (part own n cells.new) n }
+    ensures same { Filled K.reads K.reach (λ q. cell K.reads (part own n source.now) q) (part own n cells.new) n }
 {
     for p in 0..n {
         cells[own + p] = source[own + p];
@@ -43,7 +43,7 @@ fn copy_cells<K: LabelKind + Copy>(n: usize, own: usize, source: &[K], cells: &m
 fn publish<K: LabelKind + Copy>(m: usize, n: usize, flags: &[bool], work: &[K], cells: &mut [K])
     requires { (m ≤ length flags.now) × (m * n ≤ length work.now) × (m * n ≤ length cells.old) }
     ensures rest { RestKept (m * n) cells.old cells.new }
-    ensures rows { Published reads reach n flags.now work.now cells.new m }
+    ensures rows { Published K.reads K.reach n flags.now work.now cells.new m }
 {
     for f in 0..m {
         if flags[f] {
@@ -64,11 +64,11 @@ fn label_all<K: LabelKind + Copy, R: Readable>(
     work: &mut [K],
 )
     requires fit { OrderlyTable table.now × Flagged table.now flags.now (length table.now) × (length table.now ≤ length flags.now) × (length table.now ≤ 64) }
-    requires count { n ≡ length (states log.now) }
-    requires short { (n ≤ 256) × (n ≤ reach) }
+    requires count { n ≡ length (R.states log.now) }
+    requires short { (n ≤ 256) × (n ≤ K.reach) }
     requires roomy { (length table.now * n ≤ length cells.old) × (length table.now * n ≤ length work.old) }
-    requires lawful { LawfulTo n (state_at (states log.now)) }
-    ensures { Labelled reads reach table.now (states log.now) cells.old work.old cells.new work.new }
+    requires lawful { LawfulTo n (state_at (R.states log.now)) }
+    ensures { Labelled K.reads K.reach table.now (R.states log.now) cells.old work.old cells.new work.new }
 {
     let m = table.len();
     label_table(log, table, flags, n, work);
@@ -84,7 +84,7 @@ pub fn label_whole<K: LabelKind + Copy, R: Readable>(
     labels: &mut [K],
     work: &mut [K],
 ) -> Result<usize, Refusal>
-    ensures { Answered reads reach (formulas_of table.now.draft) (states log.now) labels.old work.old result labels.new work.new }
+    ensures { Answered K.reads K.reach (formulas_of table.now.draft) (R.states log.now) labels.old work.old result labels.new work.new }
 {
     let formulas = table.formulas();
     let n = log.count();

@@ -5,6 +5,7 @@ use labels::LabelKind;
 use labels::dated::Dated;
 use logic::types::{Formula, State};
 use records::rows::Rows;
+use std::test::Fail;
 
 #[test]
 fn ahead(rt: HostRuntime) -> Result<(), Fail> {

@@ -1,4 +1,6 @@
 // Whole labelling on logs whose labels and refusals are worked out by hand.
+#![tactic(auto)]
+
 #[cfg(test)]
 mod labels_tests;
 #[cfg(test)]

@@ -6,6 +6,7 @@ use labels::dated::Dated;
 use logic::types::{Formula, State};
 use records::rows::Rows;
 use std::process::Abort;
+use std::test::Fail;
 use strips::Strip;
 
 const PAIR: [Formula; 2] = [Formula::Signal(0), Formula::Not(0)];

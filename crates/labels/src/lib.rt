@@ -1,4 +1,6 @@
 // Labels: what is known of a formula at a state, at every truncation point of a log.
+#![tactic(auto)]
+
 ghost use Rattle.std.specs.Prelude.{◌≡◌, ℕ, ◌<◌, ◌≤◌, Bool, true, false};
 ghost use Rattle.labels.specs.Readings.{Same, Sound, Settled, opened, fixed, negated, both, either, seen};
 

@@ -1,4 +1,6 @@
 // Labels on values worked out by hand.
+#![tactic(auto)]
+
 #[cfg(test)]
 mod tests {
     use labels::LabelKind;

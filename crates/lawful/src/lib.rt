@@ -1,4 +1,6 @@
 // Whether the states of a record are lawful: no nominal above 0 stands on two states, and every reference is to an earlier one.
+#![tactic(auto)]
+
 ghost use Rattle.std.specs.Prelude.{◌≡◌, ℕ, ◌+◌, ◌<◌, ◌≤◌, true, false, ◌⊎◌, List, [], ◌∷◌, ◌++◌, length, Decides, MatchOption, slice_index_or};
 ghost use Rattle.logic.specs.States.{state_at};
 ghost use Rattle.logic.specs.Lawful.{Unfit, NominalTaken, ReferenceUnfit, LawfulRecord};
@@ -35,7 +37,7 @@ fn was_seen(nominal: usize, seen: &[bool]) -> bool
 
 // The first state that may not stand in a lawful trace, with the reason; the nominal goes before the references.
 pub fn first_unlawful<R: Readable>(log: &R) -> Option<Refusal>
-    ensures { MatchOption result (LawfulRecord (states log.now)) (λ u. FirstUnlawful (states log.now) u) }
+    ensures { MatchOption result (LawfulRecord (R.states log.now)) (λ u. FirstUnlawful (R.states log.now) u) }
 {
     let mut seen = [false; 256];
     for p in 0..log.count() {
@@ -54,7 +56,7 @@ pub fn first_unlawful<R: Readable>(log: &R) -> Option<Refusal>
 
 // Whether the nominal of a state stands on a state of the record.
 fn is_taken<R: Readable>(log: &R, state: State) -> bool
-    ensures { Decides result (NominalTaken (joined (states log.now) state) (length (states log.now) + 1)) }
+    ensures { Decides result (NominalTaken (joined (R.states log.now) state) (length (R.states log.now) + 1)) }
 {
     if state.nominal == 0 {
         return false;
@@ -69,8 +71,8 @@ fn is_taken<R: Readable>(log: &R, state: State) -> bool
 
 // Whether a state would have an unfit reference as the one after the n states of the record.
 fn is_misled<R: Readable>(log: &R, state: State, i: usize) -> bool
-    requires { i ≡ length (states log.now) + 1 }
-    ensures { Decides result (ReferenceUnfit (joined (states log.now) state) i) }
+    requires { i ≡ length (R.states log.now) + 1 }
+    ensures { Decides result (ReferenceUnfit (joined (R.states log.now) state) i) }
 {
     let _ = log;
     has_unfit(state, i)
@@ -78,7 +80,7 @@ fn is_misled<R: Readable>(log: &R, state: State, i: usize) -> bool
 
 // Why a state may not follow those of a record, if there is a reason; a record of 256 states is not continued.
 pub fn next_unlawful<R: Readable>(log: &R, state: State) -> Option<Refusal>
-    ensures { MatchOption result (MayFollow (states log.now) state) (λ u. MayNotFollow (states log.now) state u) }
+    ensures { MatchOption result (MayFollow (R.states log.now) state) (λ u. MayNotFollow (R.states log.now) state u) }
 {
     let n = log.count();
     if n >= 256 {

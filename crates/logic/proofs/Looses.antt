@@ -1,9 +1,8 @@
 -- A formula that is not loose does not depend on the variable. Assumes nothing.
-use Rattle.std.proofs.Common.{◌≡◌, ℕ, suc, ◌+◌, ◌-◌, ◌<◌, ◌≤◌, Bool, true, false, not, ◌||◌, sym, refl, ◌∙◌}
+use Rattle.std.proofs.Common.{◌≡◌, suc, ◌-◌, Bool, true, false, not, ◌||◌, refl}
 use mathlib.Core.Logic.{⊎_map}
 use Rattle.std.proofs.lemmas.Bool.{true≢false}
-use Rattle.logic.specs.States.{Trace}
-use Rattle.logic.specs.Logic.{Tree, true', signal, nominal, not', and', or', next, previous, until, since, at', variable, reference, bind, some', Kept, Reads, is_loose}
+use Rattle.logic.specs.Logic.{true', signal, nominal, not', and', or', next, previous, until, since, at', variable, reference, bind, some', Reads, is_loose}
 use Rattle.logic.specs.Laws.{BindingIsFree}
 use Rattle.logic.proofs.Keeps.{kept_map, at_nominal_map}
 

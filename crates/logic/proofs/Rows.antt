@@ -1,10 +1,10 @@
 -- The formulas of a table, and their trees. Assumes nothing.
-use Rattle.std.proofs.Common.{◌≡◌, ℕ, zero, suc, ◌+◌, ◌<◌, ◌≤◌, Bool, true, false, ◌||◌, List, [], ◌∷◌, length, get_or, sym, refl, ap, ◌∙◌, subst, ap₂, arith, below_more}
+use Rattle.std.proofs.Common.{◌≡◌, ℕ, zero, suc, ◌+◌, ◌<◌, Bool, true, false, ◌||◌, List, length, get_or, sym, refl, ap, ◌∙◌, ap₂, arith, below_more}
 use Rattle.std.proofs.lemmas.Bool.{true≢false}
-use Rattle.logic.specs.Logic.{Tree, true', signal, nominal, not', and', or', next, previous, until, since, at', variable, reference, bind, some', is_loose}
+use Rattle.logic.specs.Logic.{Tree, not', and', or', next, previous, until, since, at', bind, some', is_loose}
 use Rattle.logic.specs.declared.types.Formula.{Formula}
 use Rattle.logic.specs.declared.types.Formula.TheVariants.{True, Signal, Nominal, Not, And, Or, Next, Previous, Until, Since, At, Variable, Reference, Bind, Some}
-use Rattle.logic.specs.Tables.{node, EachPart, InRange, loose_by, binds, tree_to, tree, loose, OrderlyTable, Flagged, TreesUnfold}
+use Rattle.logic.specs.Tables.{node, EachPart, loose_by, binds, tree_to, tree, loose, OrderlyTable, Flagged, TreesUnfold}
 use Rattle.logic.proofs.Looses.{neither}
 
 pub node_same : (φ : Formula) (P Q : ℕ → Tree) → EachPart (λ k. P k ≡ Q k) φ → node φ P ≡ node φ Q

@@ -1,8 +1,8 @@
 -- The formulas, and what it means that one holds: on an endless trace, and at a truncation point (on the shop floor: a cut),
 -- where only the states up to that point are kept.
-use Rattle.std.specs.Prelude.{◌≡◌, ℕ, suc, ◌+◌, ◌-◌, ◌*◌, ◌/◌, ◌%◌, ◌^◌, ◌<◌, ◌≤◌, Bool, true, false, not, ◌||◌, ◌⊎◌}
+use Rattle.std.specs.Prelude.{◌≡◌, ℕ, suc, ◌-◌, ◌/◌, ◌%◌, ◌^◌, ◌<◌, ◌≤◌, Bool, true, false, not, ◌||◌, ◌⊎◌}
 use Rattle.logic.specs.declared.types.State.{State}
-use Rattle.logic.specs.States.{Trace, Agree}
+use Rattle.logic.specs.States.{Trace}
 
 -- a formula as a tree
 pub data Tree : Type 0 where

@@ -1,6 +1,5 @@
 -- Records of states, and the traces that they begin. States are numbered from 1.
 use Rattle.std.specs.Prelude.{◌≡◌, ℕ, zero, suc, ◌≤◌, List, [], ◌∷◌, ◌++◌, length, slice_index_or}
-use Rattle.logic.specs.declared.types.Reference.{Reference}
 use Rattle.logic.specs.declared.types.State.{State}
 
 -- the state in which every number is 0: what a record answers for a state that it does not hold

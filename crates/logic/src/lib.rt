@@ -1,3 +1,5 @@
 // The logic: states, formulas, and what it means that a formula holds.
+#![tactic(auto)]
+
 pub mod laws;
 pub mod types;

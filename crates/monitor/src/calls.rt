@@ -213,8 +213,8 @@ impl<R: Growing> Monitor<R> {
         work: &mut [K],
     ) -> Result<usize, Refusal>
         requires { self.now.book.count ≡ length (R.Readable.states self.now.log) }
-        ensures whole { WholeAnswered reads reach self.now.book.count (table_of self.now.book) (R.Readable.states self.now.log) labels.old work.old result labels.new work.new }
-        ensures agrees { is_ok result ≡ true → Agrees reads (ground_of self.now.book (R.Growing.room self.now.log)) (R.Readable.states self.now.log) labels.new }
+        ensures whole { WholeAnswered K.reads K.reach self.now.book.count (table_of self.now.book) (R.Readable.states self.now.log) labels.old work.old result labels.new work.new }
+        ensures agrees { is_ok result ≡ true → Agrees K.reads (ground_of self.now.book (R.Growing.room self.now.log)) (R.Readable.states self.now.log) labels.new }
     {
         label_whole(&self.book.table, &self.log, labels, work)
     }
@@ -226,8 +226,8 @@ impl<R: Growing> Monitor<R> {
         labels: &mut [K],
         work: &mut [K],
     ) -> Result<usize, Refusal>
-        ensures whole { WholeAnswered reads reach self.now.book.count (table_of self.now.book) (R.Readable.states self.now.log) labels.old work.old result labels.new work.new }
-        ensures agrees { is_ok result ≡ true → Agrees reads (ground_of self.now.book (R.Growing.room self.now.log)) (R.Readable.states self.now.log) labels.new }
+        ensures whole { WholeAnswered K.reads K.reach self.now.book.count (table_of self.now.book) (R.Readable.states self.now.log) labels.old work.old result labels.new work.new }
+        ensures agrees { is_ok result ≡ true → Agrees K.reads (ground_of self.now.book (R.Growing.room self.now.log)) (R.Readable.states self.now.log) labels.new }
     {
         if !self.is_own() {
             return Err(Refusal::ForeignRecord);

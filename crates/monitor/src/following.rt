@@ -37,8 +37,8 @@ impl Book {
     // declined, since the memory suffices for 64 formulas.
     pub(crate) fn follow<R: Readable>(&mut self, log: &R)
         ensures table { self.new.table ≡ self.old.table }
-        ensures counted { LawfulRecord (states log.now) → length (states log.now) ≤ 256 → self.new.count ≡ length (states log.now) }
-        ensures right { LawfulRecord (states log.now) → length (states log.now) ≤ 256 → Right (states log.now) self.new }
+        ensures counted { LawfulRecord (R.states log.now) → length (R.states log.now) ≤ 256 → self.new.count ≡ length (R.states log.now) }
+        ensures right { LawfulRecord (R.states log.now) → length (R.states log.now) ≤ 256 → Right (R.states log.now) self.new }
     {
         if let Ok(n) = label_whole(&self.table, log, &mut self.cells, &mut self.work) {
             self.count = n;

@@ -1,4 +1,6 @@
 // The live monitor: while a record grows, which expectations are raised, pending, fulfilled and violated.
+#![tactic(auto)]
+
 pub mod book;
 pub mod calls;
 mod following;

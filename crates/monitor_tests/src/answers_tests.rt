@@ -9,6 +9,7 @@ use records::growing::Growing;
 use records::readable::{BLANK, Readable};
 use records::table::TableRecord;
 use std::process::Abort;
+use std::test::Fail;
 
 const SECOND: [(usize, usize, &str); 4] = [
     (0, 1, "fulfilled"),

@@ -6,6 +6,7 @@ use monitor::live::Monitor;
 use records::growing::Growing;
 use refusals::Refusal;
 use std::process::Abort;
+use std::test::Fail;
 
 // The refusal's number and place.
 pub fn refusal<T: Drop>(answer: Result<T, Refusal>) -> (u8, usize) {

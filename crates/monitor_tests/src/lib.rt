@@ -1,4 +1,6 @@
 // The live monitor over both growing records, with answers and refusals worked out by hand.
+#![tactic(auto)]
+
 #[cfg(test)]
 mod answers_tests;
 #[cfg(test)]

@@ -7,6 +7,7 @@ use records::growing::Growing;
 use records::readable::{BLANK, Readable};
 use records::table::TableRecord;
 use std::process::Abort;
+use std::test::Fail;
 
 // So many states are accepted, and then each is refused with a number, at place 0.
 fn stops<R: Growing + Drop>(

@@ -10,6 +10,7 @@ use records::growing::Growing;
 use records::readable::{BLANK, Readable};
 use records::table::TableRecord;
 use std::process::Abort;
+use std::test::Fail;
 
 // References that state 2 may not have: of a kind above 15, of none with a target, and to no state, itself and a later one.
 const UNFIT: [(u8, u16); 6] = [(16, 1), (0, 1), (1, 0), (1, 2), (15, 2), (1, 3)];

@@ -1,5 +1,7 @@
 // The publication's examples about labels, on a live monitor. Each log is a rules text followed by trace lines; the states are
 // appended one by one, and the labels of some formulas are printed state by state.
+#![tactic(auto)]
+
 mod asking;
 mod rows;
 

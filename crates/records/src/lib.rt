@@ -1,4 +1,6 @@
 // Records of states: what every record answers, what a growing record accepts, and the records that come with the product.
+#![tactic(auto)]
+
 mod change;
 pub mod change_record;
 pub mod cut;

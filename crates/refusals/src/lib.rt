@@ -1,4 +1,6 @@
 // Why the monitor's layer declines a call.
+#![tactic(auto)]
+
 ghost use Rattle.std.specs.Prelude.{◌≡◌};
 ghost use Rattle.refusals.specs.Numbers.{told};
 

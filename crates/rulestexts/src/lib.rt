@@ -1,4 +1,6 @@
 // Rules texts: a table of formulas with its rules.
+#![tactic(auto)]
+
 pub mod joins;
 pub mod laws;
 pub mod sections;

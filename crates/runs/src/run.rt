@@ -127,8 +127,8 @@ pub fn run<K: LabelKind + Copy, R: Growing>(
     ensures judged { length (R.Readable.states log) ≡ 0 → Judged (ground (formulas_of table.draft) (rules_of table.draft) (R.Growing.room log)) (R.Readable.states result.monitor.log) }
     ensures goes_on { length (R.Readable.states log) ≡ 0 → GoesOn (R.Readable.states result.monitor.log) }
     ensures meant { length (R.Readable.states log) ≡ 0 → Meant (ground (formulas_of table.draft) (rules_of table.draft) (R.Growing.room log)) (R.Readable.states result.monitor.log) }
-    ensures whole { length (R.Readable.states log) ≡ 0 → length calls.now ≤ length answers.old → WholeAnswered reads reach (length (R.Readable.states result.monitor.log)) (formulas_of table.draft) (R.Readable.states result.monitor.log) labels.old work.old result.labelled labels.new work.new }
-    ensures agrees { length (R.Readable.states log) ≡ 0 → length calls.now ≤ length answers.old → is_ok result.labelled ≡ true → Agrees reads (ground (formulas_of table.draft) (rules_of table.draft) (R.Growing.room log)) (R.Readable.states result.monitor.log) labels.new }
+    ensures whole { length (R.Readable.states log) ≡ 0 → length calls.now ≤ length answers.old → WholeAnswered K.reads K.reach (length (R.Readable.states result.monitor.log)) (formulas_of table.draft) (R.Readable.states result.monitor.log) labels.old work.old result.labelled labels.new work.new }
+    ensures agrees { length (R.Readable.states log) ≡ 0 → length calls.now ≤ length answers.old → is_ok result.labelled ≡ true → Agrees K.reads (ground (formulas_of table.draft) (rules_of table.draft) (R.Growing.room log)) (R.Readable.states result.monitor.log) labels.new }
 {
     let mut monitor = Monitor::new(table, log);
     if answers.len() < calls.len() {

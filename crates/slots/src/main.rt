@@ -1,6 +1,8 @@
 // A request slot allocator. A free slot is taken, and freed before it is taken again; that is the rule. In this log a slot was
 // freed twice, so that the pool hands it out again at state 4 while its client of state 3 still has it. The same story is told
 // over two kinds of record. By the law of `run` the violation is for good (for_good.rt).
+#![tactic(auto)]
+
 mod for_good;
 mod log;
 mod rule;

@@ -10,7 +10,7 @@ use Rattle.strips.proofs.Keeping.{Held, held_same, held_both, held_either, held_
 use Rattle.strips.proofs.Bits.{bit_of_and, bit_of_or, bit_not, bit_ones, bit_zero}
 
 holding : (x : Strip) → Held 64 (strip x.weak x.strong)
-holding x = (x.sound, (x.stays_weak, (x.stays_strong, tt)))
+holding x = record { sound = x.sound; stays_weak = x.stays_weak; stays_strong = x.stays_strong }
 
 pub strip_and : (w s w' s' : ℕ) → Same 64 (strip (bit_and w w') (bit_and s s')) (both (strip w s) (strip w' s'))
 strip_and w s w' s' true c lo hi = bit_of_and w w' (c - 1)

@@ -1,4 +1,6 @@
 // Strips: labels of two masks, for logs of up to 64 states.
+#![tactic(auto)]
+
 ghost use Rattle.std.specs.Prelude.{◌≡◌, ℕ, ◌+◌, ◌-◌, ◌^◌, ◌<◌, ◌≤◌, min, true, false, ◌==◌};
 ghost use Rattle.std.specs.Int.Count.{count_trailing_zeros};
 ghost use Rattle.labels.specs.Readings.{Same, Sound, DateOf, fixed, negated, both, either, seen};

@@ -1,4 +1,6 @@
 // Texts, good and bad, held against what was worked out by hand.
+#![tactic(auto)]
+
 #[cfg(test)]
 mod asks;
 #[cfg(test)]

@@ -1,4 +1,6 @@
 // Reads rules and a log from standard input, and prints what becomes of the log's expectations.
+#![tactic(auto)]
+
 ghost use Rattle.std.specs.Prelude.{◌≤◌, length, IfOk};
 
 use std::env::FillError;

@@ -1,4 +1,6 @@
 // What `watch` prints of a rules text and the trace lines that follow it.
+#![tactic(auto)]
+
 mod ends;
 pub mod lines;
 mod points;

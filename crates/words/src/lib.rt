@@ -1,4 +1,6 @@
 // The words of the operators, recognised byte by byte.
+#![tactic(auto)]
+
 ghost use Rattle.std.specs.Prelude.{◌≡◌, MatchOption, ◌≢◌};
 ghost use Rattle.words.specs.Words.{word as word_of};
 ghost use Rattle.words.specs.declared.Operator.{Operator};

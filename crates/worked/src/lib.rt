@@ -1,4 +1,6 @@
 // Worked examples: logs with the labels, raisings and refusals that the logic's definitions give them.
+#![tactic(auto)]
+
 ghost use Rattle.std.specs.Prelude.{◌≡◌, ◌+◌, length};
 ghost use Rattle.worked.specs.Examples.{labels, further_labels, raisings, offers, further_offers};
 ghost use Rattle.worked.specs.Claims.{WorkedExamples, FurtherExamples};

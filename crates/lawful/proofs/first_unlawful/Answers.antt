@@ -9,4 +9,4 @@ loop-p-init g c = passed_none (state_at (g.R.Readable.states c.args.log.now))
 pub loop-p-preserved : goal.loop-p-preserved
 loop-p-preserved g c =
     passed_step (state_at (g.R.Readable.states c.args.log.now)) c.loop-p.p c.loop-p.seen c.loop-p.invariant c.state-state.result c.state-state.ensures
-    c.was-seen.result c.has-unfit.result c.if-was-seen.false c.if-has-unfit.false (omega arith) c.was-seen.ensures c.has-unfit.ensures
+    c.was_seen.result c.has_unfit.result c.if-was_seen.false c.if-has_unfit.false (omega arith) c.was_seen.ensures c.has_unfit.ensures

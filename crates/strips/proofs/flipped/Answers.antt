@@ -5,5 +5,5 @@ use Rattle.strips.proofs.flipped.Goals as goal
 pub returns : goal.returns
 returns c = strip_not c.args.label.weak c.args.label.strong (search rules) (search rules)
 
-pub invariant-of-result : goal.invariant-of-result
-invariant-of-result c = held_flipped c.args.label (search rules) (search rules)
+pub invariant_of-result : goal.invariant_of-result
+invariant_of-result c = let h = held_flipped c.args.label (search rules) (search rules) in record { sound = h.sound; stays_weak = h.stays_weak; stays_strong = h.stays_strong }

@@ -4,5 +4,5 @@ use Rattle.strips.proofs.joined.Goals as goal
 pub returns : goal.returns
 returns c = strip_or c.args.a.weak c.args.a.strong c.args.b.weak c.args.b.strong
 
-pub invariant-of-result : goal.invariant-of-result
-invariant-of-result c = held_joined c.args.a c.args.b
+pub invariant_of-result : goal.invariant_of-result
+invariant_of-result c = let h = held_joined c.args.a c.args.b in record { sound = h.sound; stays_weak = h.stays_weak; stays_strong = h.stays_strong }

@@ -15,11 +15,11 @@ returns-then-text-gt1 c n h =
 pub returns-then-b-lt-ZERO : goal.returns-then-b-lt-ZERO
 returns-then-b-lt-ZERO c n h = omega (arith, no_digit c.args.text.now c.loop-i.i n (omega arith) h)
 
-pub overflow-mul-n : goal.overflow-mul-n
-overflow-mul-n c = let s : c.loop-i.n < 10 ^ 10 = so_far c.args.text.now c.loop-i.i c.loop-i.n (omega arith) (omega arith) c.loop-i.invariant.0 c.loop-i.invariant.1 in omega arith
+pub overflow_mul-n : goal.overflow_mul-n
+overflow_mul-n c = let s : c.loop-i.n < 10 ^ 10 = so_far c.args.text.now c.loop-i.i c.loop-i.n (omega arith) (omega arith) c.loop-i.invariant.0 c.loop-i.invariant.1 in omega arith
 
-pub overflow-add-n : goal.overflow-add-n
-overflow-add-n c = let s : c.loop-i.n < 10 ^ 10 = so_far c.args.text.now c.loop-i.i c.loop-i.n (omega arith) (omega arith) c.loop-i.invariant.0 c.loop-i.invariant.1 in omega arith
+pub overflow_add-n : goal.overflow_add-n
+overflow_add-n c = let s : c.loop-i.n < 10 ^ 10 = so_far c.args.text.now c.loop-i.i c.loop-i.n (omega arith) (omega arith) c.loop-i.invariant.0 c.loop-i.invariant.1 in omega arith
 
 pub loop-i-preserved : goal.loop-i-preserved
 loop-i-preserved c = digit_step c.args.text.now c.loop-i.i c.loop-i.n (omega arith) (omega arith) c.loop-i.invariant.0 c.loop-i.invariant.1 (omega arith) (omega arith)

@@ -10,5 +10,5 @@ loop-place-preserved g c long also e k lo hi =
     (λ h.
     let is : point ≡ k = omega arith in
     subst (λ j. g.A.LabelKind.reads c.args.a e j ≡ g.B.LabelKind.reads c.args.b e j) is
-    (c.same-at.ensures.told (omega arith) (omega (arith, long, c.loop-place-test.true)) (omega (arith, also, c.loop-place-test.true)) c.if-not-same-at.false e))
+    (c.same_at.ensures.told (omega arith) (omega (arith, long, c.loop-place-test.true)) (omega (arith, also, c.loop-place-test.true)) c.if-not-same_at.false e))
     (cases_lt k point)

@@ -15,8 +15,8 @@ loop-p-init g c =
     let s = state_at (g.R.Readable.states c.args.log.now) in
     row_start g.K.LabelKind.reads g.K.LabelKind.reach c.args.n s c.args.table.now c.args.f (λ i e k. Reads e s (min k c.args.n) 0 i (bind (tree c.args.table.now c.args.a))) c.args.cells.now c.requires.known
 
-pub label-bound-requires : goal.label-bound-requires
-label-bound-requires g c =
+pub label_bound-requires : goal.label_bound-requires
+label_bound-requires g c =
     record {
       fit = (c.requires.fit.0, omega arith, c.requires.fit.2, c.requires.fit.3);
       room = omega arith;
@@ -34,10 +34,10 @@ loop-p-preserved g c =
     let f = c.args.f in
     let a = c.args.a in
     let p = c.loop-p.p in
-    let ys = c.label-bound.new.cells in
+    let ys = c.label_bound.new.cells in
     let φ = tree table a in
     let G : ℕ → Bool → ℕ → Type 0 = λ i e k. Reads e s (min k n) 0 i (bind φ) in
-    let told = c.label-bound.ensures.told in
+    let told = c.label_bound.ensures.told in
     let low = row_below a f n c.requires.fit.4 in
     let long : a * n + n ≤ length ys = omega arith in
     row_write reads reach n s table f G c.args.cells.now ys p c.index-cells-a.result (omega arith) (omega arith)
@@ -45,7 +45,7 @@ loop-p-preserved g c =
     kept_same e s (min k n) (p + 1) (p + 1) φ _
     (Decides-at _ _ (cell_in reads n a ys p c.index-cells-a.result (omega arith) long c.index-cells-a.is e k)
     (told a c.requires.fit.4 c.requires.fit.5 e k (p + 1) lo hi (omega arith))))
-    (row_pass reads reach n s table f G c.args.cells.now c.loop-p.cells ys p c.label-bound.ensures.rest
+    (row_pass reads reach n s table f G c.args.cells.now c.loop-p.cells ys p c.label_bound.ensures.rest
     (closed_again reads reach n s table c.args.wanted.now (p + 1) f ys told) c.loop-p.invariant)
 
 pub returns : goal.returns

@@ -11,8 +11,8 @@ use Rattle.labelling.proofs.binders.label_bound.Goals.{then-wanted-g, else-wante
 pub loop-g-init : goal.loop-g-init
 loop-g-init g c = (told_start _ _ _ _ _ c.args.wanted.now c.args.v c.args.m c.args.cells.now c.requires.known, refl)
 
-pub label-row-requires : goal.label-row-requires
-label-row-requires g c =
+pub label_row-requires : goal.label_row-requires
+label_row-requires g c =
     let reads = g.K.LabelKind.reads in
     let reach = g.K.LabelKind.reach in
     let s = state_at (g.R.Readable.states c.args.log.now) in
@@ -43,8 +43,8 @@ loop-g-preserved g c =
     elim c.if-wanted-g.branch [
       | then-wanted-g w ↦
           subst P (sym w.cells-is) (
-            told_turn reads reach n s table c.args.wanted.now c.args.v m c.loop-g.cells w.label-row.new.cells k w.label-row.ensures.others w.label-row.ensures.told c.loop-g.invariant.0,
-            rest_turn reads reach n s table c.args.wanted.now c.args.v m c.args.cells.now c.loop-g.cells w.label-row.new.cells k less w.label-row.ensures.others c.loop-g.invariant.1,
+            told_turn reads reach n s table c.args.wanted.now c.args.v m c.loop-g.cells w.label_row.new.cells k w.label_row.ensures.others w.label_row.ensures.told c.loop-g.invariant.0,
+            rest_turn reads reach n s table c.args.wanted.now c.args.v m c.args.cells.now c.loop-g.cells w.label_row.new.cells k less w.label_row.ensures.others c.loop-g.invariant.1,
           )
       | else-wanted-g w ↦
           subst P (sym w.cells-is)

@@ -29,21 +29,21 @@ loop-p-preserved g c =
     let φ = tree table c.args.b in
     let G : ℕ → Bool → ℕ → Type 0 = λ i e k. Reads e s (min k n) 0 i (some' kind φ) in
     let old = c.args.cells.now in
-    let none = c.false-from-none.result in
-    let one = c.label-through-one.result in
-    let two = c.label-through-both.result in
-    let xs = c.label-through-one.new.cells in
-    let ys = c.label-through-both.new.cells in
+    let none = c.false_from-none.result in
+    let one = c.label_through-one.result in
+    let two = c.label_through-both.result in
+    let xs = c.label_through-one.new.cells in
+    let ys = c.label_through-both.new.cells in
     row_write reads reach n s table f G old ys p two (omega arith) (omega arith)
     (λ e k lo hi.
-    let is_none = c.false-from-none.ensures e k lo hi in
+    let is_none = c.false_from-none.ensures e k lo hi in
     some_decides s φ kind (p + 1) c.requires.fit.5 e (min k n) (reads none e k) (reads one e k) (reads two e k)
     (λ w. is_none ∙ cond-true _ _ _ (lt-ltb k (p + 1) (omega arith)))
     (λ w. is_none ∙ cond-false _ _ _ (le-ltb k (p + 1) (omega arith)))
-    (subst (λ (q : State). Decides (reads one e k) ((reads none e k ≡ true) ⊎ Through s φ kind q.first (p + 1) e (min k n))) c.state-state.ensures (c.label-through-one.ensures.told e k lo hi))
-    (subst (λ (q : State). Decides (reads two e k) ((reads one e k ≡ true) ⊎ Through s φ kind q.second (p + 1) e (min k n))) c.state-state.ensures (c.label-through-both.ensures.told e k lo hi)))
-    (row_pass reads reach n s table f G old xs ys p c.label-through-both.ensures.rest c.label-through-both.ensures.known
-    (row_pass reads reach n s table f G old c.loop-p.cells xs p c.label-through-one.ensures.rest c.label-through-one.ensures.known c.loop-p.invariant))
+    (subst (λ (q : State). Decides (reads one e k) ((reads none e k ≡ true) ⊎ Through s φ kind q.first (p + 1) e (min k n))) c.state-state.ensures (c.label_through-one.ensures.told e k lo hi))
+    (subst (λ (q : State). Decides (reads two e k) ((reads one e k ≡ true) ⊎ Through s φ kind q.second (p + 1) e (min k n))) c.state-state.ensures (c.label_through-both.ensures.told e k lo hi)))
+    (row_pass reads reach n s table f G old xs ys p c.label_through-both.ensures.rest c.label_through-both.ensures.known
+    (row_pass reads reach n s table f G old c.loop-p.cells xs p c.label_through-one.ensures.rest c.label_through-one.ensures.known c.loop-p.invariant))
 
 pub returns : goal.returns
 returns g c =

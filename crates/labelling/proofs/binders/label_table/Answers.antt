@@ -11,8 +11,8 @@ use Rattle.labelling.proofs.binders.label_table.Goals.{then-not-flags-f, else-no
 pub loop-f-init : goal.loop-f-init
 loop-f-init g c = ((λ h v less. absurd (omega arith)), refl)
 
-pub label-closed-requires : goal.label-closed-requires
-label-closed-requires g c =
+pub label_closed-requires : goal.label_closed-requires
+label_closed-requires g c =
     let k = c.loop-f.f in
     let within = c.loop-f-test.true in
     let h = row_below k (length c.args.table.now) c.args.n within in
@@ -36,8 +36,8 @@ loop-f-preserved g c =
     elim c.if-not-flags-f.branch [
       | then-not-flags-f w ↦
           subst P (sym w.cells-is) (
-            w.label-closed.ensures.told,
-            rest_more (k * n + n) (length table * n) c.loop-f.cells w.label-closed.new.cells (row_below k (length table) n within) w.label-closed.ensures.rest ∙ c.loop-f.invariant.1,
+            w.label_closed.ensures.told,
+            rest_more (k * n + n) (length table * n) c.loop-f.cells w.label_closed.new.cells (row_below k (length table) n within) w.label_closed.ensures.rest ∙ c.loop-f.invariant.1,
           )
       | else-not-flags-f w ↦
           subst P (sym w.cells-is) (

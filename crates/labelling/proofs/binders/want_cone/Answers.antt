@@ -5,8 +5,8 @@ use Rattle.labelling.proofs.binders.want_cone.Goals as goal
 pub loop-g-init : goal.loop-g-init
 loop-g-init c = cone_start c.args.table.now c.requires.fit.0 c.args.flags.now c.requires.fit.2 c.args.a c.requires.fit.1 c.args.wanted.now c.want.new.wanted c.requires.none c.want.ensures.grown c.want.ensures.ready
 
-pub want-parts-requires : goal.want-parts-requires
-want-parts-requires c =
+pub want_parts-requires : goal.want_parts-requires
+want_parts-requires c =
     let k = c.loop-g.g - 1 in
     let lt : k < length c.args.table.now = omega arith in (
       c.requires.fit.0 k lt,
@@ -17,8 +17,8 @@ want-parts-requires c =
 
 pub loop-g-preserved-then-wanted-g : goal.loop-g-preserved-then-wanted-g
 loop-g-preserved-then-wanted-g c =
-    cone_turn c.args.table.now c.requires.fit.0 c.args.flags.now c.requires.fit.2 c.args.a c.requires.fit.1 c.loop-g.wanted c.want-parts.new.wanted c.loop-g.g (c.loop-g.g - 1) (omega arith) (omega arith)
-    c.want-parts.ensures.grown c.want-parts.ensures.ready c.loop-g.invariant
+    cone_turn c.args.table.now c.requires.fit.0 c.args.flags.now c.requires.fit.2 c.args.a c.requires.fit.1 c.loop-g.wanted c.want_parts.new.wanted c.loop-g.g (c.loop-g.g - 1) (omega arith) (omega arith)
+    c.want_parts.ensures.grown c.want_parts.ensures.ready c.loop-g.invariant
 
 pub loop-g-preserved : goal.loop-g-preserved
 loop-g-preserved c =

@@ -20,7 +20,7 @@ loop-p-preserved g c =
     let n = c.args.n in
     let p = c.loop-p.p in
     decisions_turn g.K.LabelKind.reads g.K.LabelKind.reach (λ i e k. Kept e (min k n) i (Here c.args.formula (s i) c.args.v i)) n c.args.own _ c.loop-p.cells p c.decided.result (omega arith) (omega arith)
-    (λ e k lo hi. Decides-at _ _ (c.decided.ensures e k lo hi) (fixed_decides n (p + 1) _ e k _ (omega arith) c.holds-here.ensures))
+    (λ e k lo hi. Decides-at _ _ (c.decided.ensures e k lo hi) (fixed_decides n (p + 1) _ e k _ (omega arith) c.holds_here.ensures))
     c.loop-p.invariant
 
 pub returns : goal.returns

@@ -16,8 +16,8 @@ loop-p-preserved g c =
     let old = c.args.cells.now in
     let n = c.args.n in
     let p = c.loop-p.p in
-    fill_turn k.reads k.reach n (λ q. seen (q + 1) (cell k.reads (part c.args.a n old) c.args.place)) c.args.own old c.loop-p.cells p c.seen-from.result (omega arith) (omega arith)
-    (λ e j lo hi. c.seen-from.ensures e j lo hi ∙ ap (cond (ltb j (p + 1)) e) (c.label-at-there.ensures e j lo hi))
+    fill_turn k.reads k.reach n (λ q. seen (q + 1) (cell k.reads (part c.args.a n old) c.args.place)) c.args.own old c.loop-p.cells p c.seen_from.result (omega arith) (omega arith)
+    (λ e j lo hi. c.seen_from.ensures e j lo hi ∙ ap (cond (ltb j (p + 1)) e) (c.label_at-there.ensures e j lo hi))
     c.loop-p.invariant
 
 pub returns : goal.returns

@@ -15,9 +15,9 @@ loop-p-preserved g c =
     let old = c.args.cells.now in
     let n = c.args.n in
     let p = c.loop-p.p in
-    fill_turn k.reads k.reach n (λ q. cell k.reads (part c.args.a n old) (q + 1)) c.args.own old c.loop-p.cells p c.label-at.result (omega arith) (omega arith)
-    (subst (λ xs. Same k.reach (k.reads c.label-at.result) (cell k.reads xs (p + 1)))
-    (part_front c.args.a n c.args.own old c.loop-p.cells c.requires.apart.0 c.loop-p.invariant.0.0) c.label-at.ensures)
+    fill_turn k.reads k.reach n (λ q. cell k.reads (part c.args.a n old) (q + 1)) c.args.own old c.loop-p.cells p c.label_at.result (omega arith) (omega arith)
+    (subst (λ xs. Same k.reach (k.reads c.label_at.result) (cell k.reads xs (p + 1)))
+    (part_front c.args.a n c.args.own old c.loop-p.cells c.requires.apart.0 c.loop-p.invariant.0.0) c.label_at.ensures)
     c.loop-p.invariant
 
 pub returns : goal.returns

@@ -9,7 +9,7 @@ use Rattle.labelling.proofs.rows.label_previous.Goals as goal
 
 pub loop-p-init : goal.loop-p-init
 loop-p-init g c = (
-  (λ e k lo hi. c.false-from-last.ensures e k lo hi ∙ cond-false _ _ _ (le-ltb k 1 (omega arith)) ∙ sym (prior_none g.K.LabelKind.reads _ e k)),
+  (λ e k lo hi. c.false_from-last.ensures e k lo hi ∙ cond-false _ _ _ (le-ltb k 1 (omega arith)) ∙ sym (prior_none g.K.LabelKind.reads _ e k)),
   fill_start _ _ c.args.n _ c.args.own c.args.cells.now,
 )
 
@@ -20,8 +20,8 @@ loop-p-preserved g c =
     let n = c.args.n in
     let from = prior reads (part c.args.a n old) in
     let p = c.loop-p.p in
-    let more = fill_turn reads g.K.LabelKind.reach n (λ q. seen (q + 1) (from q)) c.args.own old c.loop-p.cells p c.seen-from.result (omega arith) (omega arith)
-    (λ e k lo hi. c.seen-from.ensures e k lo hi ∙ ap (cond (ltb k (p + 1)) e) (c.loop-p.invariant.0 e k lo hi))
+    let more = fill_turn reads g.K.LabelKind.reach n (λ q. seen (q + 1) (from q)) c.args.own old c.loop-p.cells p c.seen_from.result (omega arith) (omega arith)
+    (λ e k lo hi. c.seen_from.ensures e k lo hi ∙ ap (cond (ltb k (p + 1)) e) (c.loop-p.invariant.0 e k lo hi))
     c.loop-p.invariant.1 in (
       (λ e k lo hi.
           sym (prior_next reads (part c.args.a n old) p e k

@@ -6,12 +6,12 @@ use Rattle.labelling.proofs.Tellings.{tells_since}
 use Rattle.labelling.proofs.rows.label_since.Goals as goal
 
 pub loop-p-init : goal.loop-p-init
-loop-p-init g c = since_start _ _ _ _ _ _ _ c.requires.apart.0 c.requires.apart.1 c.requires.apart.2 _ c.false-from-carried.ensures
+loop-p-init g c = since_start _ _ _ _ _ _ _ c.requires.apart.0 c.requires.apart.1 c.requires.apart.2 _ c.false_from-carried.ensures
 
 pub loop-p-preserved : goal.loop-p-preserved
 loop-p-preserved g c =
     since_turn _ _ _ _ _ _ _ c.requires.apart.0 c.requires.apart.1 c.requires.apart.2 _ c.loop-p.p _ _ _ _ _ _ (omega arith) c.loop-p.auto.cells
-    c.index-cells-a.is c.index-cells-b.is c.seen-from.ensures c.and.ensures c.or-carried.ensures c.loop-p.invariant
+    c.index-cells-a.is c.index-cells-b.is c.seen_from.ensures c.and.ensures c.or-carried.ensures c.loop-p.invariant
 
 pub returns : goal.returns
 returns g c =

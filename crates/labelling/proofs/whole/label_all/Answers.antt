@@ -18,17 +18,17 @@ returns g c =
     let z = zero-add total in
     let same : total ≡ length table * length xs = ap (λ k. length table * k) is in
     let out = c.publish.new.cells in
-    let done = c.clear-cells.new.cells in
+    let done = c.clear_cells.new.cells in
     record {
       short = subst (λ k. (k ≤ 256) × (k ≤ reach)) is c.requires.short;
       roomy = subst (λ k. (k ≤ length c.args.cells.now) × (k ≤ length c.args.work.now)) same c.requires.roomy;
       lawful = subst (λ k. LawfulTo k (state_at xs)) is c.requires.lawful;
       labels = subst (λ k. (f i : ℕ) → f < length table → 1 ≤ i → i ≤ k → (d : g.row.K.Denot) → LabelOf reads reach table xs f i (get_or out (place k f i) d)) is
-          (label_of reads reach n xs table c.args.flags.now c.label-table.new.cells out is c.requires.fit.1 c.label-table.ensures.told c.publish.ensures.rows (omega arith));
+          (label_of reads reach n xs table c.args.flags.now c.label_table.new.cells out is c.requires.fit.1 c.label_table.ensures.told c.publish.ensures.rows (omega arith));
       later = subst (λ k. drop k out ≡ drop k c.args.cells.now) same c.publish.ensures.rest;
       cleared = subst (λ k. (j : ℕ) → j < k → (d : g.row.K.Denot) → Same reach (reads (get_or done j d)) opened) same
           (λ j less d e k lo hi.
-          ap (λ q. reads (get_or done q d) e k) (sym (zero-add j)) ∙ part_cell reads 0 total done j d less (omega arith) e k ∙ c.clear-cells.ensures.clear j e k less lo hi);
+          ap (λ q. reads (get_or done q d) e k) (sym (zero-add j)) ∙ part_cell reads 0 total done j d less (omega arith) e k ∙ c.clear_cells.ensures.clear j e k less lo hi);
       later_work = subst (λ k. drop k done ≡ drop k c.args.work.now) same
-          (ap (λ k. drop k done) (sym z) ∙ c.clear-cells.ensures.others.1 ∙ ap (λ k. drop k c.label-table.new.cells) z ∙ c.label-table.ensures.rest);
+          (ap (λ k. drop k done) (sym z) ∙ c.clear_cells.ensures.others.1 ∙ ap (λ k. drop k c.label_table.new.cells) z ∙ c.label_table.ensures.rest);
     }

@@ -10,17 +10,17 @@ use Rattle.labelling.proofs.whole.publish.Goals.{then-flags-f, else-flags-f}
 pub loop-f-init : goal.loop-f-init
 loop-f-init g c = ((λ h less. absurd (omega arith)), refl)
 
-pub overflow-mul-f : goal.overflow-mul-f
-overflow-mul-f g c = let h = row_below c.loop-f.f c.args.m c.args.n c.loop-f-test.true in record { fits = omega arith }
+pub overflow_mul-f : goal.overflow_mul-f
+overflow_mul-f g c = let h = row_below c.loop-f.f c.args.m c.args.n c.loop-f-test.true in record { fits = omega arith }
 
-pub overflow-mul-f-else-flags-f : goal.overflow-mul-f-else-flags-f
-overflow-mul-f-else-flags-f g c = let h = row_below c.loop-f.f c.args.m c.args.n c.loop-f-test.true in record { fits = omega arith }
+pub overflow_mul-f-else-flags-f : goal.overflow_mul-f-else-flags-f
+overflow_mul-f-else-flags-f g c = let h = row_below c.loop-f.f c.args.m c.args.n c.loop-f-test.true in record { fits = omega arith }
 
-pub clear-cells-requires : goal.clear-cells-requires
-clear-cells-requires g c = let h = row_below c.loop-f.f c.args.m c.args.n c.loop-f-test.true in omega arith
+pub clear_cells-requires : goal.clear_cells-requires
+clear_cells-requires g c = let h = row_below c.loop-f.f c.args.m c.args.n c.loop-f-test.true in omega arith
 
-pub copy-cells-requires : goal.copy-cells-requires
-copy-cells-requires g c = let h = row_below c.loop-f.f c.args.m c.args.n c.loop-f-test.true in (omega arith, omega arith)
+pub copy_cells-requires : goal.copy_cells-requires
+copy_cells-requires g c = let h = row_below c.loop-f.f c.args.m c.args.n c.loop-f-test.true in (omega arith, omega arith)
 
 pub loop-f-preserved : goal.loop-f-preserved
 loop-f-preserved g c =
@@ -35,15 +35,15 @@ loop-f-preserved g c =
     elim c.if-flags-f.branch [
       | then-flags-f w ↦
           subst P (sym w.cells-is) (
-            published_more reads reach n c.args.flags.now c.args.work.now xs w.clear-cells.new.cells f w.clear-cells.ensures.others
-                ((λ h. w.clear-cells.ensures.clear), (λ h. absurd (true≢false (sym w.if-flags-f.true ∙ h)))) c.loop-f.invariant.0,
-            rest_more (f * n + n) total xs w.clear-cells.new.cells low w.clear-cells.ensures.others.1 ∙ c.loop-f.invariant.1,
+            published_more reads reach n c.args.flags.now c.args.work.now xs w.clear_cells.new.cells f w.clear_cells.ensures.others
+                ((λ h. w.clear_cells.ensures.clear), (λ h. absurd (true≢false (sym w.if-flags-f.true ∙ h)))) c.loop-f.invariant.0,
+            rest_more (f * n + n) total xs w.clear_cells.new.cells low w.clear_cells.ensures.others.1 ∙ c.loop-f.invariant.1,
           )
       | else-flags-f w ↦
           subst P (sym w.cells-is) (
-            published_more reads reach n c.args.flags.now c.args.work.now xs w.copy-cells.new.cells f w.copy-cells.ensures.others
-                ((λ h. absurd (true≢false (sym h ∙ w.if-flags-f.false))), (λ h. w.copy-cells.ensures.same)) c.loop-f.invariant.0,
-            rest_more (f * n + n) total xs w.copy-cells.new.cells low w.copy-cells.ensures.others.1 ∙ c.loop-f.invariant.1,
+            published_more reads reach n c.args.flags.now c.args.work.now xs w.copy_cells.new.cells f w.copy_cells.ensures.others
+                ((λ h. absurd (true≢false (sym h ∙ w.if-flags-f.false))), (λ h. w.copy_cells.ensures.same)) c.loop-f.invariant.0,
+            rest_more (f * n + n) total xs w.copy_cells.new.cells low w.copy_cells.ensures.others.1 ∙ c.loop-f.invariant.1,
           )
     ]
 

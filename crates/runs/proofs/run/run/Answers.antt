@@ -55,14 +55,14 @@ returns g c =
     let log = c.args.log in
     let first = c.new-monitor.result in
     let new = c.new-monitor.ensures in
-    let all = c.reply-all.ensures in
-    let last = c.reply-all.new.monitor in
+    let all = c.reply_all.ensures in
+    let last = c.reply_all.new.monitor in
     let calls = c.args.calls.now in
     let G = on t (room log) in
     let ends = states last.log in
-    let said : Ran G (states log) calls c.reply-all.new.answers ends =
-    subst (λ (l : g.row.R.Denot). Ran (on t (room l)) (states l) calls c.reply-all.new.answers ends) new.log
-    (subst (λ (s : Table). Ran (on s (room first.log)) (states first.log) calls c.reply-all.new.answers ends) new.table all.ran) in
+    let said : Ran G (states log) calls c.reply_all.new.answers ends =
+    subst (λ (l : g.row.R.Denot). Ran (on t (room l)) (states l) calls c.reply_all.new.answers ends) new.log
+    (subst (λ (s : Table). Ran (on s (room first.log)) (states first.log) calls c.reply_all.new.answers ends) new.table all.ran) in
     let none : length (states log) ≡ 0 → length (states first.log) ≡ 0 = λ e. ap (λ (l : g.row.R.Denot). length (states l)) new.log ∙ e in
     let whole-table : last.book.table ≡ t = all.table ∙ new.table in
     let whole_room : room last.log ≡ room log = all.room ∙ ap room new.log in
@@ -77,7 +77,7 @@ returns g c =
           let fresh : last.book.count ≡ 0 = ap (λ (m : Monitor g.row.R.Denot). m.book.count) same ∙ new.fresh in
           let apart : last.book.count ≡ length ends → ⊥ =
           subst (λ (m : Monitor g.row.R.Denot). m.book.count ≡ length (states m.log) → ⊥) (sym same) (λ e. omega (arith, new.fresh)) in
-          let whole = foreign_whole g.K.LabelKind.reads g.K.LabelKind.reach last.book.count (formulas_of last.book.table.draft) ends c.args.labels.now c.args.work.now c.label-record-labelled.new.labels c.label-record-labelled.new.work c.label-record-labelled.result apart c.label-record-labelled.ensures.whole in
+          let whole = foreign_whole g.K.LabelKind.reads g.K.LabelKind.reach last.book.count (formulas_of last.book.table.draft) ends c.args.labels.now c.args.work.now c.label_record-labelled.new.labels c.label_record-labelled.new.work c.label_record-labelled.result apart c.label_record-labelled.ensures.whole in
           (ap (λ (m : Monitor g.row.R.Denot). m.log) same ∙ new.log, fresh, whole.1, whole.2, (λ _. whole.0));
       judged = λ e.
           subst (Judged G) (sym (said.own_record e).0)
@@ -88,10 +88,10 @@ returns g c =
           subst (Meant G) (sym (said.own_record e).0)
           (meant (formulas_of t.draft) (rules_of t.draft) (room log) (accepted G [] calls) (accepted_lawful G [] calls nothing_lawful) (accepted_small G [] calls (omega arith)));
       whole = λ e _.
-          subst (λ (s : Table). WholeAnswered g.K.LabelKind.reads g.K.LabelKind.reach (length ends) (formulas_of s.draft) ends c.args.labels.now c.args.work.now c.label-record-labelled.result c.label-record-labelled.new.labels c.label-record-labelled.new.work) whole-table
-          (subst (λ own. WholeAnswered g.K.LabelKind.reads g.K.LabelKind.reach own (formulas_of last.book.table.draft) ends c.args.labels.now c.args.work.now c.label-record-labelled.result c.label-record-labelled.new.labels c.label-record-labelled.new.work) (all.counted (none e))
-          c.label-record-labelled.ensures.whole);
+          subst (λ (s : Table). WholeAnswered g.K.LabelKind.reads g.K.LabelKind.reach (length ends) (formulas_of s.draft) ends c.args.labels.now c.args.work.now c.label_record-labelled.result c.label_record-labelled.new.labels c.label_record-labelled.new.work) whole-table
+          (subst (λ own. WholeAnswered g.K.LabelKind.reads g.K.LabelKind.reach own (formulas_of last.book.table.draft) ends c.args.labels.now c.args.work.now c.label_record-labelled.result c.label_record-labelled.new.labels c.label_record-labelled.new.work) (all.counted (none e))
+          c.label_record-labelled.ensures.whole);
       agrees = λ e _ ok.
-          subst (λ H. Agrees g.K.LabelKind.reads H ends c.label-record-labelled.new.labels) (ap₂ on whole-table whole_room)
-          (c.label-record-labelled.ensures.agrees ok);
+          subst (λ H. Agrees g.K.LabelKind.reads H ends c.label_record-labelled.new.labels) (ap₂ on whole-table whole_room)
+          (c.label_record-labelled.ensures.agrees ok);
     }

@@ -4,7 +4,7 @@ use Rattle.slots.proofs.for_good.violated_for_good.Goals as goal
 
 pub returns : goal.returns
 returns c =
-    let table = c.in-ok-table.ensures in
+    let table = c.in_ok-table.ensures in
     let new = c.new.ensures in
     let calls = c.calls.ensures in
     let run = c.run.ensures in

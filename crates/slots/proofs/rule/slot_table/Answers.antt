@@ -9,9 +9,9 @@ ruled : Ruled slot_formulas slot_rule
 unfolding loose tree tree_to
 ruled = ((omega arith, omega arith), refl, refl)
 
-pub returns-in-err-add-rule : goal.returns-in-err-add-rule
-returns-in-err-add-rule c =
-    let draft = c.add-formula-5.new.self in
+pub returns-in_err-add_rule : goal.returns-in_err-add_rule
+returns-in_err-add_rule c =
+    let draft = c.add_formula-5.new.self in
     absurd (not_refused (formulas_of draft) slot_formulas (length (rules_of draft))
-    (record { condition = c.in-ok-take.take; content = c.in-ok-content.content }) slot_rule
-    c.in-err-add-rule.field-0.0 c.in-err-add-rule.ensures.0 (search rules) (search rules) (search rules) ruled)
+    (record { condition = c.in_ok-take.take; content = c.in_ok-content.content }) slot_rule
+    c.in_err-add_rule.field-0.0 c.in_err-add_rule.ensures.0 (search rules) (search rules) (search rules) ruled)

@@ -8,4 +8,4 @@ pub loop-line-preserved : goal.loop-line-preserved
 loop-line-preserved c = walk_more c.args.text.now c.loop-line.at c.loop-line.k c.loop-line.invariant c.in-Ok.line c.in-Ok.ensures
 
 pub returns : goal.returns
-returns c = walk_end c.args.text.now c.loop-line.at c.loop-line.k c.loop-line.invariant c.in-default.field-0 c.in-default.ensures
+returns c = walk_end c.args.text.now c.loop-line.at c.loop-line.k c.loop-line.invariant c.in_default.field-0 c.in_default.ensures

@@ -18,4 +18,4 @@ loop-line-preserved c = (
 pub returns : goal.returns
 returns c =
     past_end (states_of c.args.text.now) c.loop-line.k c.args.i
-    (walk_end c.args.text.now c.loop-line.at c.loop-line.k c.loop-line.invariant.0 c.in-default.field-0 c.in-default.ensures) c.loop-line.invariant.1
+    (walk_end c.args.text.now c.loop-line.at c.loop-line.k c.loop-line.invariant.0 c.in_default.field-0 c.in_default.ensures) c.loop-line.invariant.1

@@ -9,7 +9,7 @@ use Rattle.watch_lib.proofs.ends.end_line.Goals as goal
 
 pub plus-tally-requires : goal.plus-tally-requires
 plus-tally-requires g c =
-    record { few = few_more (256 * c.loop-k.k) 65536 c.loop-k.tally (omega (arith, c.loop-k-test.true, c.requires.short)) c.loop-k.invariant.1; fewer = c.tally-of.ensures.few }
+    record { few = few_more (256 * c.loop-k.k) 65536 c.loop-k.tally (omega (arith, c.loop-k-test.true, c.requires.short)) c.loop-k.invariant.1; fewer = c.tally_of.ensures.few }
 
 pub loop-k-init : goal.loop-k-init
 loop-k-init g c =
@@ -25,8 +25,8 @@ loop-k-preserved g c =
     let within : k < length (rules_in m.book) = omega (arith, c.loop-k-test.true, c.requires.rules) in
     let more : 256 * k + 256 ≡ 256 * (k + 1) = omega arith in (
       subst (λ (t : Tally). plus t (summed labels (length xs) (drop (k + 1) (rules_in m.book))) ≡ summed labels (length xs) (rules_in m.book)) (sym is)
-          (sum_more labels (length xs) (rules_in m.book) k c.loop-k.tally c.tally-of.result within c.tally-of.ensures.counts c.loop-k.invariant.0),
-      subst (λ (t : Tally). Few (256 * (k + 1)) t) (sym is) (subst (λ n. Few n (plus c.loop-k.tally c.tally-of.result)) more (few_sum (256 * k) c.loop-k.tally c.tally-of.result c.loop-k.invariant.1 c.tally-of.ensures.few)),
+          (sum_more labels (length xs) (rules_in m.book) k c.loop-k.tally c.tally_of.result within c.tally_of.ensures.counts c.loop-k.invariant.0),
+      subst (λ (t : Tally). Few (256 * (k + 1)) t) (sym is) (subst (λ n. Few n (plus c.loop-k.tally c.tally_of.result)) more (few_sum (256 * k) c.loop-k.tally c.tally_of.result c.loop-k.invariant.1 c.tally_of.ensures.few)),
     )
 
 pub returns : goal.returns

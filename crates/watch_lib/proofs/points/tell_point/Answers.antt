@@ -16,7 +16,7 @@ loop-notice-smaller g c =
     let hit : slice_get all (c.len.result - c.len-start.result) ≡ Some c.in-Some.notice = sym c.in-Some.ensures in
     let got : slice_get all k ≡ Some c.in-Some.notice = ap (λ n. slice_get all (n - c.len-start.result)) (sym c.len.ensures) ∙ hit in
     let below : k < length all = nth_within all k c.in-Some.notice got in
-    omega (arith, c.in-ok-push.ensures.len, c.loop-notice.invariant.1)
+    omega (arith, c.in_ok-push.ensures.len, c.loop-notice.invariant.1)
 
 pub loop-notice-preserved : goal.loop-notice-preserved
 loop-notice-preserved g c =
@@ -26,10 +26,10 @@ loop-notice-preserved g c =
     let hit : slice_get all (c.len.result - c.len-start.result) ≡ Some c.in-Some.notice = sym c.in-Some.ensures in
     let got : slice_get all k ≡ Some c.in-Some.notice = ap (λ n. slice_get all (n - c.len-start.result)) (sym c.len.ensures) ∙ hit in
     let below : k < length all = nth_within all k c.in-Some.notice got in
-    let next : k + 1 ≡ vec_len c.push.new.self - c.len-start.result = omega (arith, c.in-ok-push.ensures.len, c.loop-notice.invariant.1) in (
-      c.in-ok-push.ensures.items ∙ pushed (Told c.args.point) all (vec_items c.args.lines.now) (vec_items c.loop-notice.lines) k c.in-Some.notice got c.loop-notice.invariant.0
+    let next : k + 1 ≡ vec_len c.push.new.self - c.len-start.result = omega (arith, c.in_ok-push.ensures.len, c.loop-notice.invariant.1) in (
+      c.in_ok-push.ensures.items ∙ pushed (Told c.args.point) all (vec_items c.args.lines.now) (vec_items c.loop-notice.lines) k c.in-Some.notice got c.loop-notice.invariant.0
           ∙ ap (λ n. vec_items c.args.lines.now ++ map (Told c.args.point) (take n all)) next,
-      omega (arith, c.in-ok-push.ensures.len, c.loop-notice.invariant.1),
+      omega (arith, c.in_ok-push.ensures.len, c.loop-notice.invariant.1),
       omega (arith, next),
     )
 
@@ -38,6 +38,6 @@ returns g c =
     let m = c.args.monitor.now in
     let all : List Notice = notices (labels_of (table_of m.book) (g.R.Readable.states m.log)) (rules_in m.book) c.args.point in
     let k : ℕ = vec_len c.loop-notice.lines - c.len-start.result in
-    let missed : slice_get all (c.len.result - c.len-start.result) ≡ None = sym c.in-default.ensures in
+    let missed : slice_get all (c.len.result - c.len-start.result) ≡ None = sym c.in_default.ensures in
     let gone : slice_get all k ≡ None = ap (λ n. slice_get all (n - c.len-start.result)) (sym c.len.ensures) ∙ missed in
     pushed_all (Told c.args.point) all (vec_items c.args.lines.now) (vec_items c.loop-notice.lines) k gone c.loop-notice.invariant.0

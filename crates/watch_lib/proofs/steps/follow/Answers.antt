@@ -40,7 +40,7 @@ loop-at-preserved g c =
     let start = c.args.monitor.now in
     let text : List ℕ = c.args.text.now in
     let m = c.loop-at.monitor in
-    let new = c.take-line.new.monitor in
+    let new = c.take_line.new.monitor in
     let r = c.in-Ok.ensures in
     let inv = c.loop-at.invariant in
     let table = r.table ∙ inv.2 in
@@ -54,8 +54,8 @@ loop-at-preserved g c =
       room,
       omega (arith, r.bytes.1, left),
       omega (arith, r.bytes.0, inv.5),
-      stepped (on g start) (on g m) (on g new) text (drop at text) (drop (at + used) text) (over g m) (over g new) (vec_items c.loop-at.lines) (vec_items c.tell-point.new.lines) used (c.loop-at.count + 1)
-          (same-ground g m start inv.2 inv.3) (same-ground g new start table room) inv.6 (subst (λ t. Steps (on g m) (over g m) t (Ok used) (over g new)) (rest_part text at) r.steps) (sym r.bytes.2) c.in-ok-tell-point.ensures (sym (drop-drop used at text)),
+      stepped (on g start) (on g m) (on g new) text (drop at text) (drop (at + used) text) (over g m) (over g new) (vec_items c.loop-at.lines) (vec_items c.tell_point.new.lines) used (c.loop-at.count + 1)
+          (same-ground g m start inv.2 inv.3) (same-ground g new start table room) inv.6 (subst (λ t. Steps (on g m) (over g m) t (Ok used) (over g new)) (rest_part text at) r.steps) (sym r.bytes.2) c.in_ok-tell_point-in-Ok.ensures (sym (drop-drop used at text)),
     )
 
 pub returns-in-Err : goal.returns-in-Err
@@ -67,7 +67,7 @@ returns-in-Err g c =
     let at : ℕ = c.loop-at.at in
     let some : 0 < length (drop at text) = omega (arith, length-drop at text, c.loop-at-test.true) in
     broken (on g start) (on g m) text (drop at text) (over g m) (vec_items c.loop-at.lines) (vec_items c.push.new.self) c.args.place c.in-Err.number (c.args.place + c.loop-at.count)
-    (same-ground g m start inv.2 inv.3) inv.6 some (subst (λ t. NotTaken (on g m) (over g m) t c.in-Err.number) (rest_part text at) c.in-Err.ensures.steps.0) (ap (λ n. c.args.place + n) inv.0) c.in-ok-push.ensures.items
+    (same-ground g m start inv.2 inv.3) inv.6 some (subst (λ t. NotTaken (on g m) (over g m) t c.in-Err.number) (rest_part text at) c.in-Err.ensures.steps.0) (ap (λ n. c.args.place + n) inv.0) c.in_ok-push-in-Err.ensures.items
 
 pub returns : goal.returns
 returns g c =
@@ -77,5 +77,5 @@ returns g c =
     let inv = c.loop-at.invariant in
     let at : ℕ = c.loop-at.at in
     let none_left : length (drop at text) ≡ 0 = omega (arith, length-drop at text, c.loop-at-test.false) in
-    finished (on g start) (on g m) text (drop at text) (over g m) (vec_items c.loop-at.lines) (vec_items c.push-2.new.self) c.args.place c.end-line.result
-    (same-ground g m start inv.2 inv.3) inv.6 none_left c.end-line.ensures c.in-ok-push-2.ensures.items
+    finished (on g start) (on g m) text (drop at text) (over g m) (vec_items c.loop-at.lines) (vec_items c.push-2.new.self) c.args.place c.end_line.result
+    (same-ground g m start inv.2 inv.3) inv.6 none_left c.end_line.ensures c.in_ok-push.ensures.items

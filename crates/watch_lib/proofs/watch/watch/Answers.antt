@@ -8,6 +8,6 @@ pub returns : goal.returns
 returns c =
     let input = c.args.input.now in
     record {
-      lines = c.watch-any.ensures;
-      only = IfOk-weaker c.watch-any.result _ (λ v. Only input (vec_items v)) (λ v w. one_output input (vec_items v) w) c.watch-any.ensures;
+      lines = c.watch_any.ensures;
+      only = IfOk-weaker c.watch_any.result _ (λ v. Only input (vec_items v)) (λ v w. one_output input (vec_items v) w) c.watch_any.ensures;
     }

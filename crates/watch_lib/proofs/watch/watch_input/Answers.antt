@@ -11,10 +11,10 @@ returns-in-Ok c =
     let d = c.in-Ok.rules.table.draft in
     let input = c.args.input.now in
     let room : table_room c.new.result ≡ 256 = c.new.ensures.room in
-    IfOk-weaker c.watch-log.result _ (λ v. Watched input (vec_items v))
+    IfOk-weaker c.watch_log.result _ (λ v. Watched input (vec_items v))
     (λ v p. traced c.requires (formulas_of d) (rules_of d) c.in-Ok.rules.used c.in-Ok.ensures
     (subst (λ n. Traced (ground (formulas_of d) (rules_of d) n) (drop c.in-Ok.rules.used input) (length (formulas_of d) + length (rules_of d) + 3) (vec_items v)) room p))
-    c.watch-log.ensures
+    c.watch_log.ensures
 
 pub returns-in-Err : goal.returns-in-Err
 returns-in-Err c =

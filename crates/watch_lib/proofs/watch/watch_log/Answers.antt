@@ -21,5 +21,5 @@ returns g c =
     subst (λ (G : Ground). IfOk result (λ v. Traced G (drop used input) place (vec_items v)))
     (ap₂ (λ (t : Table) k. ground (formulas_of t.draft) (rules_of t.draft) k) new.table (ap g.R.Growing.room new.log))
     (subst (λ t. IfOk result (λ v. Traced H t place (vec_items v))) (rest_part input used)
-    (subst (λ n. IfOk result (λ v. Traced H (take (length input - used) (drop used input)) n (vec_items v))) (ap₂ (λ (a : List Formula) (b : List Rule). length a + length b + 3) c.formulas-formula-count.ensures.list c.rules-rule-count.ensures.list)
+    (subst (λ n. IfOk result (λ v. Traced H (take (length input - used) (drop used input)) n (vec_items v))) (ap₂ (λ (a : List Formula) (b : List Rule). length a + length b + 3) c.formulas-formula_count.ensures.list c.rules-rule_count.ensures.list)
     c.follow.ensures))

@@ -11,6 +11,6 @@ loop-r-preserved c =
       c.loop-r.invariant.0,
       below_more _ _
           (λ k h. let ne : k ≢ r = omega arith in get_or-set_other b.tallies r k c.change.new.t no_tally ne ∙ c.loop-r.invariant.1 k h)
-          (get_or-set_same b.tallies r c.change.new.t no_tally (omega arith) ∙ c.change.ensures ∙ c.tally-of-t.ensures
+          (get_or-set_same b.tallies r c.change.new.t no_tally (omega arith) ∙ c.change.ensures ∙ c.tally_of-t.ensures
           ∙ ap (λ rs. tallied (held b) (get_or rs r no_rule) b.count b.count) c.rules.ensures.list),
     )

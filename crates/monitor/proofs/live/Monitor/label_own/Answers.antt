@@ -6,7 +6,7 @@ pub returns : goal.returns
 returns g c =
     let m = c.args.self.now in
     let xs = g.R.Readable.states m.log in
-    let w = c.label-whole in
+    let w = c.label_whole in
     record {
       whole = whole_answered g.K.LabelKind.reads g.K.LabelKind.reach m.book.count (table_of m.book) xs c.args.labels.now c.args.work.now w.new.labels w.new.work c.requires w.result w.ensures;
       agrees = whole_agrees g.K.LabelKind.reads g.K.LabelKind.reach m.book (g.R.Growing.room m.log) xs c.args.labels.now c.args.work.now w.new.labels w.new.work w.result w.ensures;

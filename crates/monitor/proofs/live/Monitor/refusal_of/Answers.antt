@@ -11,4 +11,4 @@ returns-then-n-capacity g c =
 pub returns : goal.returns
 returns g c =
     let m = c.args.self.now in
-    refused_next m.book.count (ground_of m.book (g.R.Growing.room m.log)) (g.R.Readable.states m.log) c.args.state (omega arith) (omega arith) (omega arith) c.next-unlawful.result c.next-unlawful.ensures
+    refused_next m.book.count (ground_of m.book (g.R.Growing.room m.log)) (g.R.Readable.states m.log) c.args.state (omega arith) (omega arith) (omega arith) c.next_unlawful.result c.next_unlawful.ensures

@@ -6,4 +6,4 @@ use Rattle.records.proofs.change_record.ChangeRecord.put.Goals as goal
 pub returns : goal.returns
 returns c =
     let h : c.args.self.now.count < length c.args.self.now.changes = omega arith in
-    record { kept = simp length-set; longer = ap (replayed 0) (take_more_set _ _ _ h) ∙ c.change-to-change.ensures }
+    record { kept = simp length-set; longer = ap (replayed 0) (take_more_set _ _ _ h) ∙ c.change_to-change.ensures }

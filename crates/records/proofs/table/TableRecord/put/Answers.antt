@@ -6,14 +6,14 @@ use Rattle.records.proofs.table.TableRecord.put.Goals as goal
 row_free : (xs : List State) (n : ℕ) → length (take n xs) < length xs → n < length xs
 row_free xs n h = omega (arith, simp length-take at h)
 
-pub offset-bounds-self-self : goal.offset-bounds-self-self
-offset-bounds-self-self c = let h : c.args.self.now.count < length c.args.self.now.rows.now = row_free _ _ c.requires in search rules
+pub offset_bounds-self-self : goal.offset_bounds-self-self
+offset_bounds-self-self c = let h : c.args.self.now.count < length c.args.self.now.rows.now = row_free _ _ c.requires in search rules
 
 pub bounds-self-self : goal.bounds-self-self
 bounds-self-self c = row_free _ _ c.requires
 
-pub overflow-add-self : goal.overflow-add-self
-overflow-add-self c = let h : c.args.self.now.count < length c.args.self.now.rows.now = row_free _ _ c.requires in search rules
+pub overflow_add-self : goal.overflow_add-self
+overflow_add-self c = let h : c.args.self.now.count < length c.args.self.now.rows.now = row_free _ _ c.requires in search rules
 
 pub returns : goal.returns
 returns c =
