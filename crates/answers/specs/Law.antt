@@ -1,23 +1,21 @@
 -- The law of a monitor: what holds of every list of calls on a new monitor.
-use Rattle.std.specs.Prelude.{◌≡◌, ℕ, suc, ◌+◌, ◌<◌, ◌≤◌, Bool, true, false, List, [], ◌∷◌, ◌++◌, length, take, Some, None, Option, ◌≢◌, slice_index_or}
+use Rattle.std.specs.Prelude.{◌≡◌, ℕ, suc, ◌+◌, ◌<◌, ◌≤◌, false, List, [], ◌∷◌, ◌++◌, length, take, None, ◌≢◌, slice_index_or}
 use Rattle.logic.specs.declared.types.State.{State}
 use Rattle.logic.specs.States.{Trace, Begins, blank}
 use Rattle.logic.specs.Lawful.{Lawful, LawfulRecord}
 use Rattle.logic.specs.Logic.{Holds}
-use Rattle.refusals.specs.declared.Refusal.{Refusal}
 use Rattle.refusals.specs.declared.Refusal.TheVariants as refusal
-use Rattle.lawful.specs.Unlawful.{MayFollow, MayNotFollow}
+use Rattle.lawful.specs.Unlawful.{MayFollow}
 use Rattle.expectations.specs.declared.types.Label.TheVariants.{TrueFrom, FalseFrom}
 use Rattle.expectations.specs.declared.types.Verdict.{Verdict}
 use Rattle.expectations.specs.declared.types.Verdict.TheVariants as is
 use Rattle.expectations.specs.declared.types.Notice.{Notice}
 use Rattle.expectations.specs.declared.types.Tally.{Tally}
-use Rattle.expectations.specs.Expectations.{Labels, no_rule}
 use Rattle.expectations.specs.Laws.{InOrder, Happens, Grows, Before}
 use Rattle.answers.specs.declared.types.Call.{Call}
 use Rattle.answers.specs.declared.types.Call.TheVariants.{Append, LabelAt, StandingAt, TallyOf, NoticeOf}
 use Rattle.answers.specs.declared.types.Answer.{Answer}
-use Rattle.answers.specs.declared.types.Answer.TheVariants.{Refused, Number, Reads, Stands, Counts, Tells, NoMore}
+use Rattle.answers.specs.declared.types.Answer.TheVariants.{Refused, Reads, Counts, Tells, NoMore}
 use Rattle.answers.specs.Answers.{Ground, refusal_of, told, accepted}
 
 abbrev pub foreign : Answer

@@ -1,12 +1,10 @@
 -- What happens at a point stands once among its notices.
-use Rattle.std.proofs.Common.{◌≡◌, ℕ, ◌<◌, List, ⊎_elim, arith}
+use Rattle.std.proofs.Common.{◌≡◌, ℕ, ◌<◌, ⊎_elim, arith}
 use Rattle.std.proofs.lemmas.Bool.{cases_order}
 use Rattle.expectations.specs.declared.types.Label.{Label}
-use Rattle.expectations.specs.declared.types.Label.TheVariants.{TrueFrom, FalseFrom}
 use Rattle.expectations.specs.declared.types.Event.{Event}
 use Rattle.expectations.specs.declared.types.Event.TheVariants.{Raising, Fulfilling, Violating}
 use Rattle.expectations.specs.declared.types.Notice.{Notice}
-use Rattle.expectations.specs.Expectations.{notices}
 use Rattle.expectations.specs.Laws.{DatedAt, Before, HappensOnce, HasOneDate}
 use Rattle.expectations.proofs.Told.{told_happens, happens_told}
 use Rattle.expectations.proofs.Order.{notices_in_order}

@@ -1,5 +1,5 @@
 -- The notices of a point stand in order.
-use Rattle.std.proofs.Common.{◌≡◌, ℕ, zero, suc, ◌+◌, ◌<◌, ◌≤◌, Bool, true, false, ◌&&◌, eqb, List, [], ◌∷◌, ◌++◌, sym, refl, ◌∙◌, inl, inr, arith}
+use Rattle.std.proofs.Common.{◌≡◌, ℕ, zero, suc, Bool, true, false, ◌&&◌, eqb, List, [], ◌∷◌, ◌++◌, sym, refl, ◌∙◌, inl, inr, arith}
 use Rattle.std.specs.List.{AllByRecursion as All}
 use Rattle.std.proofs.ByRecursion.{All-weaker}
 use Rattle.std.proofs.lemmas.Bool.{and_parts, false≢true}
@@ -8,7 +8,6 @@ use Rattle.expectations.specs.declared.types.Label.{Label}
 use Rattle.expectations.specs.declared.types.Label.TheVariants.{Unknown, TrueFrom, FalseFrom}
 use Rattle.expectations.specs.declared.types.Event.{Event}
 use Rattle.expectations.specs.declared.types.Event.TheVariants.{Raising, Fulfilling, Violating}
-use Rattle.expectations.specs.declared.types.Notice.{Notice}
 use Rattle.expectations.specs.Expectations.{Labels, true_from, false_from, raises, only_if, notice, of_state, from_state, from_rule, notices}
 use Rattle.expectations.specs.Laws.{Before, NoticesInOrder}
 use Rattle.expectations.proofs.Places.{Sorted, sorted-++, sorted_nth}

@@ -1,15 +1,14 @@
 -- The notices of a point tell what happens there, and all of it.
-use Rattle.std.proofs.Common.{◌≡◌, ℕ, zero, suc, ◌+◌, ◌<◌, ◌≤◌, Bool, true, false, ◌&&◌, eqb, List, [], ◌∷◌, ◌++◌, length, get_or, Some, refl, subst, ⊎_elim, arith}
+use Rattle.std.proofs.Common.{◌≡◌, ℕ, zero, suc, ◌+◌, ◌<◌, ◌≤◌, Bool, true, false, ◌&&◌, eqb, List, [], ◌∷◌, length, get_or, Some, refl, subst, ⊎_elim, arith}
 use Rattle.std.specs.List.{AllByRecursion as All, slice_get}
 use Rattle.std.proofs.ByRecursion.{All-append, All-weaker}
 use Rattle.std.proofs.lemmas.Bool.{false≢true, eq-eqb, eqb-true, and_parts, and_from, cases_eq}
 use Rattle.logic.specs.declared.types.Rule.{Rule}
 use Rattle.expectations.specs.declared.types.Label.{Label}
-use Rattle.expectations.specs.declared.types.Label.TheVariants.{TrueFrom, FalseFrom}
 use Rattle.expectations.specs.declared.types.Event.{Event}
 use Rattle.expectations.specs.declared.types.Event.TheVariants.{Raising, Fulfilling, Violating}
 use Rattle.expectations.specs.declared.types.Notice.{Notice}
-use Rattle.expectations.specs.Expectations.{Labels, no_rule, true_from, false_from, raises, only_if, notice, of_state, from_state, from_rule, notices}
+use Rattle.expectations.specs.Expectations.{Labels, no_rule, true_from, raises, only_if, notice, of_state, from_state, from_rule, notices}
 use Rattle.expectations.specs.Laws.{NotBefore, InOrder, Raises, DatedAt, Happens}
 use Rattle.expectations.proofs.Labels.{true_is, false_is, is_true, is_false}
 use Rattle.expectations.proofs.Places.{all_nth, Stands, stands_left, stands_right}

@@ -1,9 +1,9 @@
-use Rattle.std.proofs.Common.{◌≡◌, ℕ, ◌+◌, ◌-◌, ◌≤◌, List, ◌∷◌, length, take, drop, sym, refl, ap, ◌∙◌, subst, arith, length-append, length-drop}
+use Rattle.std.proofs.Common.{◌≡◌, ℕ, ◌+◌, ◌-◌, ◌≤◌, List, ◌∷◌, length, take, drop, sym, ap, ◌∙◌, subst, arith, length-append, length-drop}
 use Rattle.std.proofs.lemmas.List.{take_rest, drop-drop}
 use Rattle.faults.specs.declared.line.LineFault.{LineFault}
 use Rattle.faults.specs.declared.line.LineFault.TheVariants as fault
-use Rattle.fields.specs.Lines.{FirstLine, Torn}
-use Rattle.fields.specs.Kinds.{Kind, Shows, Fits, Takes, Unformed, Unranged, Refuses, TakesLine, RefusesLine}
+use Rattle.fields.specs.Lines.{FirstLine}
+use Rattle.fields.specs.Kinds.{Kind, Shows, Fits, Takes, Refuses, TakesLine, RefusesLine}
 use Rattle.fields.proofs.Ends.{one_line}
 
 -- a kind whose lines show one value at most

@@ -1,5 +1,5 @@
 -- Lines and numbers, as a text has them.
-use Rattle.std.specs.Prelude.{◌≡◌, ℕ, ◌^◌, ◌<◌, ◌≤◌, List, [], ◌∷◌, ◌++◌, length, decimal, ◌≢◌, slice_index, slice_index_or}
+use Rattle.std.specs.Prelude.{◌≡◌, ℕ, ◌^◌, ◌<◌, ◌≤◌, List, ◌∷◌, ◌++◌, length, decimal, ◌≢◌, slice_index, slice_index_or}
 use Rattle.std.specs.List.{AllByRecursion as All}
 
 -- a text in which byte c does not occur

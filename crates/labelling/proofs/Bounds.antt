@@ -13,7 +13,7 @@ use Rattle.logic.proofs.Keeps.{kept_in, kept_out, kept_past, past}
 use Rattle.logic.proofs.Rows.{each_both, loose_is, loose_unbound, closed_parts}
 use Rattle.labelling.specs.Rows.{cell, at, part, Elsewhere}
 use Rattle.labelling.specs.Tells.{Tells, row}
-use Rattle.labelling.specs.Bound.{ClosedTold, AllTold, RestKept, Through, Ready, Cone}
+use Rattle.labelling.specs.Bound.{ClosedTold, AllTold, RestKept, Through, Ready}
 use Rattle.labelling.proofs.Places.{part_front, part_read, part_set, length_part, elsewhere_none, elsewhere_more}
 use Rattle.labelling.proofs.Cells.{cell_read}
 use Rattle.labelling.proofs.Decisions.{DecidedTo, decided_none, decided_more}

@@ -1,19 +1,19 @@
 -- Rows that are copied or cleared, and the labels that they make. Assumes nothing.
-use Rattle.std.proofs.Common.{◌≡◌, ℕ, ◌+◌, ◌-◌, ◌*◌, ◌<◌, ◌≤◌, min, Bool, true, false, List, length, get_or, drop, Decides, sym, refl, ap, ◌∙◌, subst, ⊎_elim, arith}
+use Rattle.std.proofs.Common.{◌≡◌, ℕ, ◌+◌, ◌-◌, ◌*◌, ◌<◌, ◌≤◌, min, Bool, true, false, List, length, get_or, drop, Decides, sym, ◌∙◌, subst, ⊎_elim, arith}
 use Rattle.std.proofs.lemmas.Bool.{cases_eq}
 use Rattle.std.proofs.lemmas.Bool.Decides.{Decides-at}
 use Rattle.std.proofs.lemmas.List.{get_or-take, get_or-drop, get_or_default}
-use Rattle.labels.specs.Readings.{Reading, Same, opened}
+use Rattle.labels.specs.Readings.{Reading, opened}
 use Rattle.logic.specs.declared.types.Formula.{Formula}
 use Rattle.logic.specs.declared.types.State.{State}
 use Rattle.logic.specs.States.{state_at}
 use Rattle.logic.specs.Logic.{Reads}
-use Rattle.logic.specs.Tables.{tree, loose, Flagged}
+use Rattle.logic.specs.Tables.{tree, Flagged}
 use Rattle.refusals.specs.declared.Refusal.{Refusal}
 use Rattle.refusals.specs.declared.Refusal.TheVariants as refusal
 use Rattle.lawful.specs.Unlawful.{FirstUnlawful}
-use Rattle.labelling.specs.Rows.{cell, at, part, Elsewhere, Filled}
-use Rattle.labelling.specs.Tells.{Tells, row}
+use Rattle.labelling.specs.Rows.{cell, part, Elsewhere, Filled}
+use Rattle.labelling.specs.Tells.{row}
 use Rattle.labelling.specs.Bound.{ClosedTold, Published}
 use Rattle.labelling.specs.Whole.{LabelOf, place, Short, Roomy, Declined}
 use Rattle.labelling.proofs.Places.{length_part}

@@ -1,8 +1,8 @@
 -- `until`, `since` and `at`, from the readings of their parts at the states. Assumes nothing.
-use Rattle.std.proofs.Common.{◌≡◌, ℕ, zero, suc, ◌+◌, ◌-◌, ◌<◌, ◌≤◌, Bool, true, false, ◌&&◌, ◌||◌, ◌⊎◌, Decides, sym, refl, ap, ◌∙◌, subst, inl, inr, ⊎_elim, arith}
+use Rattle.std.proofs.Common.{◌≡◌, ℕ, zero, suc, ◌+◌, ◌<◌, ◌≤◌, Bool, true, false, ◌&&◌, ◌||◌, Decides, sym, refl, ap, ◌∙◌, subst, inl, inr, ⊎_elim, arith}
 use Rattle.std.proofs.lemmas.Bool.{cases_eq, or_cases, or_left, or_right, and_parts, and_from, true≢false, false≢true}
 use Rattle.logic.specs.States.{Trace}
-use Rattle.logic.specs.Logic.{Carries, Named, Nameless, AtNominal}
+use Rattle.logic.specs.Logic.{Carries, Nameless, AtNominal}
 use Rattle.logic.proofs.Uniques.{UniqueTo}
 
 -- `until` from the point m back: one state past it, the formula reads as its second part does

@@ -1,11 +1,11 @@
 -- Rows that tell of formulas, from the rows of their parts. Assumes nothing.
-use Rattle.std.proofs.Common.{◌≡◌, ℕ, suc, ◌+◌, ◌-◌, ◌<◌, ◌≤◌, min, Bool, true, false, cond, not, ◌&&◌, ◌||◌, ltb, ◌⊎◌, List, length, Decides, sym, refl, ap, ◌∙◌, subst, inl, inr, ⊎_elim, arith}
+use Rattle.std.proofs.Common.{◌≡◌, ℕ, suc, ◌+◌, ◌-◌, ◌<◌, ◌≤◌, min, Bool, true, false, not, ◌&&◌, ◌||◌, ltb, List, length, Decides, sym, refl, ap, ◌∙◌, ⊎_elim, arith}
 use Rattle.std.proofs.lemmas.Bool.{cases_lt, cases_eq, false≢true, lt-ltb, le-ltb, cond-true, cond-false}
 use Rattle.std.proofs.lemmas.Bool.Decides.{Decides-like, Decides-at, Decides-and, Decides-or, Decides-not, same_from_decides}
 use Rattle.labels.specs.Readings.{Reading, negated, both, either, seen}
 use Rattle.logic.specs.States.{Trace}
-use Rattle.logic.specs.Logic.{Tree, not', and', or', next, previous, until, since, at', Carries, Nameless, Kept, Reads, is_loose}
-use Rattle.logic.proofs.Keeps.{kept_in, kept_out, kept_past, past}
+use Rattle.logic.specs.Logic.{Tree, not', and', or', next, previous, until, since, at', Reads, is_loose}
+use Rattle.logic.proofs.Keeps.{kept_in, kept_out, past}
 use Rattle.logic.proofs.Looses.{binding_free}
 use Rattle.logic.proofs.Uniques.{UniqueTo}
 use Rattle.labelling.specs.Rows.{cell, at, prior, Filled}

@@ -1,5 +1,5 @@
 -- Whole labelling: what the label memory and the working memory hold afterwards, and which refusal fits.
-use Rattle.std.specs.Prelude.{◌≡◌, ℕ, ◌+◌, ◌-◌, ◌*◌, ◌<◌, ◌≤◌, min, Bool, true, false, ◌⊎◌, List, length, drop, Ok, Err, Decides, Result, slice_index_or}
+use Rattle.std.specs.Prelude.{◌≡◌, ℕ, ◌+◌, ◌-◌, ◌*◌, ◌<◌, ◌≤◌, min, Bool, true, false, List, length, drop, Ok, Err, Decides, Result, slice_index_or}
 use Rattle.labels.specs.Readings.{Reading, Same, opened}
 use Rattle.logic.specs.declared.types.Formula.{Formula}
 use Rattle.logic.specs.declared.types.State.{State}

@@ -1,5 +1,5 @@
 -- The labels in cells. Assumes nothing.
-use Rattle.std.proofs.Common.{◌≡◌, ℕ, zero, suc, ◌<◌, ◌≤◌, List, [], ◌∷◌, length, get_or, sym, refl, ap, ◌∙◌, arith}
+use Rattle.std.proofs.Common.{◌≡◌, ℕ, zero, suc, ◌<◌, ◌≤◌, List, [], ◌∷◌, length, get_or, refl, ap, arith}
 use Rattle.labels.specs.declared.dated.Dated.{Dated}
 use Rattle.expectations.specs.declared.types.Label.TheVariants.{Unknown}
 use Rattle.growth.specs.Growth.{label_of_number}

@@ -1,6 +1,5 @@
 -- A memory that is right of its states tells what their labels do. Assumes nothing.
-use Rattle.std.proofs.Common.{◌≡◌, ℕ, ◌<◌, ◌≤◌, false, List, length, get_or, sym, refl, ap, ◌∙◌, arith}
-use Rattle.logic.specs.declared.types.Rule.{Rule}
+use Rattle.std.proofs.Common.{◌≡◌, ℕ, ◌<◌, ◌≤◌, false, List, length, get_or, ap, ◌∙◌, arith}
 use Rattle.logic.specs.declared.types.State.{State}
 use Rattle.logic.specs.Tables.{loose}
 use Rattle.table.specs.Tables.{InOrder}

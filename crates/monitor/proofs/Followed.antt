@@ -1,5 +1,5 @@
 -- A memory that has followed its record is right. Assumes nothing.
-use Rattle.std.proofs.Common.{◌≡◌, ℕ, ◌+◌, ◌-◌, ◌*◌, ◌<◌, ◌≤◌, Bool, false, List, [], ◌∷◌, ◌++◌, length, get_or, sym, refl, ap, ◌∙◌, subst, mul-le-mul, arith}
+use Rattle.std.proofs.Common.{◌≡◌, ℕ, ◌+◌, ◌-◌, ◌*◌, ◌<◌, ◌≤◌, Bool, false, List, length, sym, ap, ◌∙◌, mul-le-mul, arith}
 use Rattle.logic.specs.declared.types.Formula.{Formula}
 use Rattle.logic.specs.declared.types.State.{State}
 use Rattle.logic.specs.Lawful.{LawfulRecord}
@@ -8,12 +8,12 @@ use Rattle.labels.specs.Dated.{dated}
 use Rattle.labels.specs.declared.dated.Dated.{Dated}
 use Rattle.refusals.specs.declared.Refusal.{Refusal}
 use Rattle.refusals.specs.declared.Refusal.TheVariants as refusal
-use Rattle.labelling.specs.Whole.{Means, LabelOf, place, Declined, Labelled}
+use Rattle.labelling.specs.Whole.{Means, place, Declined, Labelled}
 use Rattle.labelling.proofs.Nodes.{row_below}
-use Rattle.growth.specs.Growth.{label_of_number, labels_of}
+use Rattle.growth.specs.Growth.{labels_of}
 use Rattle.growth.proofs.Growing.{cells_are_labels_lem}
 use Rattle.monitor.specs.declared.book.Book.{Book}
-use Rattle.monitor.specs.Book.{table_of, rules_in, cell_at, held, TalliesRight, Right}
+use Rattle.monitor.specs.Book.{table_of, rules_in, cell_at, TalliesRight, Right}
 use Rattle.monitor.proofs.Cells.{cell_of}
 
 abbrev pub dates : Dated → Bool → ℕ → Bool

@@ -1,12 +1,12 @@
 -- Whole labelling of a monitor's own record. Assumes nothing.
-use Rattle.std.proofs.Common.{◌≡◌, ℕ, ◌<◌, ◌≤◌, Bool, true, false, List, length, get_or, is_ok, Ok, Err, Result, sym, refl, ap, ◌∙◌, arith}
+use Rattle.std.proofs.Common.{◌≡◌, ℕ, ◌<◌, true, List, length, get_or, is_ok, Ok, Err, Result, refl, ap, ◌∙◌, arith}
 use Rattle.std.proofs.lemmas.Bool.{false≢true}
 use Rattle.labels.specs.Readings.{Reading}
 use Rattle.logic.specs.declared.types.Formula.{Formula}
 use Rattle.logic.specs.declared.types.State.{State}
 use Rattle.refusals.specs.declared.Refusal.{Refusal}
 use Rattle.refusals.specs.declared.Refusal.TheVariants as refusal
-use Rattle.labelling.specs.Whole.{place, Declined, Labelled, Answered}
+use Rattle.labelling.specs.Whole.{place, Declined, Answered}
 use Rattle.growth.specs.Laws.{read_as}
 use Rattle.growth.proofs.Growing.{kinds_agree_lem}
 use Rattle.answers.proofs.Telling.{label_told}

@@ -9,7 +9,6 @@ use Rattle.labels.specs.declared.dated.Dated.{Dated}
 use Rattle.table.specs.Tables.{formulas_of, rules_of}
 use Rattle.expectations.specs.declared.types.Label.{Label}
 use Rattle.expectations.specs.declared.types.Label.TheVariants.{Unknown}
-use Rattle.expectations.specs.declared.types.Tally.{Tally}
 use Rattle.expectations.specs.Expectations.{Labels, no_rule, no_tally, tallied}
 use Rattle.growth.specs.Growth.{label_of_number, labels_of}
 use Rattle.answers.specs.Answers.{Ground}

@@ -1,5 +1,5 @@
 -- Lists of changes, replayed.
-use Rattle.std.proofs.Common.{◌≡◌, ℕ, zero, suc, ◌+◌, ◌-◌, ◌<◌, ◌≤◌, ◌⊎◌, List, [], ◌∷◌, ◌++◌, length, get_or, take, sym, refl, ap, ◌∙◌, inl, inr, sub-one, arith}
+use Rattle.std.proofs.Common.{◌≡◌, ℕ, zero, suc, ◌-◌, ◌<◌, ◌≤◌, ◌⊎◌, List, [], ◌∷◌, ◌++◌, length, get_or, take, sym, refl, ap, ◌∙◌, inl, inr, sub-one, arith}
 use lib.Bits.{bit_xor, xor_assoc, xor_self}
 use Rattle.logic.specs.States.{blank, state_at}
 use Rattle.logic.specs.declared.types.State.{State}

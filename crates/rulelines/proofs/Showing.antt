@@ -1,4 +1,4 @@
-use Rattle.std.proofs.Common.{◌≡◌, ℕ, List, [], ◌∷◌, codes, decimal, refl}
+use Rattle.std.proofs.Common.{ℕ, List, [], ◌∷◌, codes, decimal, refl}
 use Rattle.std.specs.List.{AllByRecursion as All}
 use Rattle.logic.specs.declared.types.Rule.{Rule}
 use Rattle.words.specs.Words.{word}

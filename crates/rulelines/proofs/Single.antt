@@ -1,4 +1,4 @@
-use Rattle.std.proofs.Common.{◌≡◌, ℕ, ◌≤◌, List, [], ◌∷◌, ◌++◌, length, get_or, codes, decimal, sym, refl, ap, ◌∙◌, subst}
+use Rattle.std.proofs.Common.{◌≡◌, ℕ, List, [], ◌++◌, decimal, refl}
 use Rattle.std.proofs.lemmas.List.{append_cancel_left}
 use Rattle.logic.specs.declared.types.Rule.{Rule}
 use Rattle.words.specs.Words.{word}

@@ -1,4 +1,4 @@
-use Rattle.std.proofs.Common.{◌≡◌, ℕ, ◌+◌, ◌≤◌, ◌⊎◌, List, length, drop, Ok, Err, Result, sym, refl, ap, ◌∙◌, subst, inl, inr, ⊎_elim, arith, length-drop}
+use Rattle.std.proofs.Common.{◌≡◌, ℕ, ◌+◌, List, length, drop, Ok, Err, sym, ap, ◌∙◌, subst, inr, ⊎_elim, arith, length-drop}
 use Rattle.std.proofs.lemmas.List.{take_rest, drop-drop, length-map}
 use Rattle.table.specs.declared.defects.Defect.{Defect}
 use Rattle.table.specs.declared.defects.Defect.TheVariants.{OutOfRange, PartNotBelow, NoSuchFormula, LooseRule}
@@ -10,8 +10,8 @@ use Rattle.rulelines.specs.declared.entries.Entry.{Entry}
 use Rattle.rulelines.specs.Meanings.{meaning}
 use Rattle.rulestexts.specs.declared.sections.Section.{Section}
 use Rattle.rulestexts.specs.Blocks.{Begins, Stops}
-use Rattle.rulestexts.specs.Sections.{formula_block, rule_block}
-use Rattle.rulestexts.specs.Texts.{meanings, Whole, RulesStop, Refused, FormulasRead, RulesRead}
+use Rattle.rulestexts.specs.Sections.{rule_block}
+use Rattle.rulestexts.specs.Texts.{meanings, Whole, Refused, FormulasRead, RulesRead}
 
 module _ (text : List ℕ) (a : Section) (vs : List Entry) (h : FormulasRead text a vs) where
   pub rules_stop : (e : ReadFault) → Stops (rule_block (formulas_of a.draft)) (rest_from text a.used) (a.count + 2) e → Refused text e

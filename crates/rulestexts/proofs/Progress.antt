@@ -1,4 +1,4 @@
-use Rattle.std.proofs.Common.{◌≡◌, ℕ, ◌+◌, ◌-◌, ◌<◌, ◌≤◌, List, [], ◌∷◌, ◌++◌, map, length, take, drop, Ok, Err, sym, refl, ap, ◌∙◌, subst, arith, length-append}
+use Rattle.std.proofs.Common.{◌≡◌, ℕ, ◌+◌, ◌<◌, ◌≤◌, List, [], ◌∷◌, ◌++◌, length, drop, Ok, Err, sym, refl, ap, ◌∙◌, subst, arith, length-append}
 use Rattle.std.proofs.lemmas.List.{map_push, length-map}
 use Rattle.logic.specs.declared.types.Formula.{Formula}
 use Rattle.logic.specs.declared.types.Rule.{Rule}
@@ -10,7 +10,7 @@ use Rattle.faults.specs.declared.table.TableFault.{TableFault}
 use Rattle.faults.specs.declared.table.TableFault.TheVariants.{Dangling, Loose}
 use Rattle.faults.specs.declared.read.ReadFault.{ReadFault}
 use Rattle.faults.specs.declared.read.ReadFault.TheVariants.{Line, Table}
-use Rattle.fields.specs.Kinds.{Takes, Fits, Refuses}
+use Rattle.fields.specs.Kinds.{Takes, Refuses}
 use Rattle.fields.proofs.Follow.{run_more}
 use Rattle.fields.proofs.Judged.{rest_from, taken_at, refused_at}
 use Rattle.rulelines.specs.declared.entries.Entry.{Entry}

@@ -1,4 +1,4 @@
-use Rattle.std.proofs.Common.{◌≡◌, ℕ, ◌+◌, ◌<◌, ◌⊎◌, List, length, sym, refl, ap, ◌∙◌, subst, inl, inr, ⊎_elim, arith}
+use Rattle.std.proofs.Common.{◌≡◌, ℕ, ◌+◌, ◌⊎◌, List, length, sym, ap, subst, ⊎_elim, arith}
 use Rattle.faults.specs.declared.read.ReadFault.{ReadFault}
 use Rattle.fields.specs.Runs.{Run}
 use Rattle.fields.proofs.Follow.{Single, Shorter, compared}

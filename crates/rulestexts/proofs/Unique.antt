@@ -1,23 +1,21 @@
-use Rattle.std.proofs.Common.{◌≡◌, ℕ, ◌+◌, ◌<◌, ◌⊎◌, List, length, drop, Ok, Err, codes, Result, sym, refl, ap, ◌∙◌, subst, inl, inr, ⊎_elim, arith, length-drop}
+use Rattle.std.proofs.Common.{◌≡◌, ℕ, ◌+◌, ◌<◌, List, length, drop, Ok, Err, codes, sym, ap, ◌∙◌, subst, inl, inr, arith, length-drop}
 use Rattle.logic.specs.declared.types.Formula.{Formula}
 use Rattle.logic.specs.declared.types.Rule.{Rule}
-use Rattle.table.specs.Tables.{formulas_of, rules_of, Ruled}
+use Rattle.table.specs.Tables.{Ruled}
 use Rattle.table.proofs.Fitting.{not_loose}
 use Rattle.faults.specs.declared.table.TableFault.TheVariants.{Dangling, Loose}
 use Rattle.faults.specs.declared.read.ReadFault.{ReadFault}
 use Rattle.faults.specs.declared.read.ReadFault.TheVariants.{Line, Table}
-use Rattle.fields.specs.Kinds.{Kind, Fits, Refuses}
+use Rattle.fields.specs.Kinds.{Kind, Fits}
 use Rattle.fields.proofs.Judged as judged
 use Rattle.rulelines.specs.declared.entries.Entry.{Entry}
-use Rattle.rulelines.specs.Counts.{count_kind}
 use Rattle.rulelines.specs.Formulas.{formula_kind}
 use Rattle.rulelines.specs.Meanings.{meaning}
 use Rattle.rulelines.specs.Rules.{rule_kind}
 use Rattle.rulelines.proofs.Single.{count_single, formula_single, rule_single}
-use Rattle.rulestexts.specs.declared.texts.RulesText.{RulesText}
 use Rattle.rulestexts.specs.Blocks.{Begins, Stops}
 use Rattle.rulestexts.specs.Sections.{LineOnly, count_of_formulas, count_of_rules, Founded, FormulaFits, FormulaRefused, RuleFits, RuleRefused, formula_block, rule_block}
-use Rattle.rulestexts.specs.Texts.{meanings, Whole, RulesStop, Refused, Reads, Same, OneReading}
+use Rattle.rulestexts.specs.Texts.{meanings, Whole, Refused, OneReading}
 use Rattle.rulestexts.proofs.Sound.{Clear, one_whole, whole_or_stops, one_stop}
 
 -- ── a kind of line ──

@@ -1,26 +1,24 @@
 -- The labels of a table obey the laws that a monitor's answers rest on, and the answers mean what they say. Assumes nothing.
-use Rattle.std.proofs.Common.{◌≡◌, ℕ, ◌+◌, ◌<◌, ◌≤◌, min, Bool, true, false, cond, leb, List, [], ◌∷◌, length, Some, None, Option, sym, refl, ap, ◌∙◌, subst, inl, ⊎_elim, arith}
-use Rattle.std.proofs.lemmas.Bool.{cases_Bool, leb-true, leb-false, true≢false}
+use Rattle.std.proofs.Common.{◌≡◌, ℕ, ◌+◌, ◌≤◌, min, Bool, true, false, leb, List, [], ◌∷◌, length, Some, None, Option, sym, refl, ap, ◌∙◌, subst, inl, arith}
+use Rattle.std.proofs.lemmas.Bool.{leb-true, leb-false, true≢false}
 use Rattle.logic.specs.declared.types.Formula.{Formula}
 use Rattle.logic.specs.declared.types.Rule.{Rule}
 use Rattle.logic.specs.declared.types.State.{State}
 use Rattle.logic.specs.States.{state_at}
-use Rattle.logic.specs.Lawful.{NominalTaken, LawfulRecord}
+use Rattle.logic.specs.Lawful.{LawfulRecord}
 use Rattle.logic.specs.Logic.{Reads as ReadsAs, weak, strong}
 use Rattle.logic.specs.Tables.{tree}
 use Rattle.refusals.specs.declared.Refusal.{Refusal}
 use Rattle.refusals.specs.declared.Refusal.TheVariants as refusal
-use Rattle.lawful.specs.Unlawful.{joined, MayNotFollow}
 use Rattle.expectations.specs.declared.types.Verdict.{Verdict}
 use Rattle.expectations.specs.Expectations.{verdict}
 use Rattle.growth.specs.Growth.{labels_of}
 use Rattle.growth.specs.Laws.{Right}
 use Rattle.growth.proofs.Growing.{labels_mean_lem, labels_in_order_lem, labels_are_sound_lem, labels_grow_lem}
-use Rattle.answers.specs.declared.types.Call.TheVariants.{Append, LabelAt}
-use Rattle.answers.specs.declared.types.Answer.{Answer}
-use Rattle.answers.specs.declared.types.Answer.TheVariants.{Refused, Number, Reads}
+use Rattle.answers.specs.declared.types.Call.TheVariants.{Append}
+use Rattle.answers.specs.declared.types.Answer.TheVariants.{Refused, Number}
 use Rattle.answers.specs.Tests.{taken, misled}
-use Rattle.answers.specs.Answers.{Ground, or_else, refusal_of, unless, told}
+use Rattle.answers.specs.Answers.{Ground, or_else, refusal_of, unless}
 use Rattle.answers.specs.Law.{Founded}
 use Rattle.answers.proofs.Tested.{taken_decides, misled_decides}
 use Rattle.answers.proofs.Telling.{label_told}

@@ -1,5 +1,5 @@
 -- The answers of single calls. Assumes nothing.
-use Rattle.std.proofs.Common.{◌≡◌, ℕ, Bool, true, false, cond, eqb, List, [], ◌∷◌, ◌++◌, length, is_ok, Some, None, Ok, Err, Option, Result, sym, refl, ap, ◌∙◌, subst}
+use Rattle.std.proofs.Common.{◌≡◌, ℕ, Bool, true, false, cond, eqb, List, [], ◌∷◌, ◌++◌, length, is_ok, Some, None, Option, Result, refl, ap, ◌∙◌}
 use Rattle.std.proofs.lemmas.Bool.{ne_eqb}
 use Rattle.logic.specs.declared.types.State.{State}
 use Rattle.refusals.specs.declared.Refusal.{Refusal}
@@ -7,7 +7,7 @@ use Rattle.refusals.specs.declared.Refusal.TheVariants as refusal
 use Rattle.answers.specs.declared.types.Call.{Call}
 use Rattle.answers.specs.declared.types.Call.TheVariants.{Append}
 use Rattle.answers.specs.declared.types.Answer.{Answer}
-use Rattle.answers.specs.Answers.{Ground, refusal_of, refused_by, outcome, unless, grown_by, after}
+use Rattle.answers.specs.Answers.{Ground, refusal_of, refused_by, outcome, unless, grown_by}
 use Rattle.runs.specs.Meant.{as_answer, grown_to}
 
 pub as_answer_lem : {A : Type 0} (f : A → Answer) (o : Option Refusal) (v : A) (r : Result A Refusal) → r ≡ outcome o v → as_answer f r ≡ unless o (f v)

@@ -1,5 +1,5 @@
 -- The dates of labels of different reach.
-use Rattle.std.proofs.Common.{◌≡◌, ℕ, ◌<◌, ◌≤◌, Bool, true, false, sym, ◌∙◌, ⊎_elim, arith}
+use Rattle.std.proofs.Common.{ℕ, ◌<◌, ◌≤◌, false, sym, ◌∙◌, ⊎_elim, arith}
 use Rattle.std.proofs.lemmas.Bool.{cases_lt}
 use Rattle.labels.specs.Readings.{Reading, Same, DateOf}
 use Rattle.labels.proofs.Dates.{clash}

@@ -1,13 +1,13 @@
 -- What the operations on masks do to the readings.
-use Rattle.std.proofs.Common.{◌≡◌, ℕ, ◌+◌, ◌-◌, ◌^◌, ◌<◌, ◌≤◌, min, Bool, true, false, cond, not, ◌&&◌, ◌||◌, ltb, sym, refl, ap, ◌∙◌, arith, pow_pos, pow_mono}
+use Rattle.std.proofs.Common.{◌≡◌, ℕ, ◌-◌, ◌^◌, ◌<◌, ◌≤◌, min, true, false, not, ◌&&◌, ◌||◌, ltb, ap, ◌∙◌, arith, pow_pos, pow_mono}
 use lib.Bits.{bit_and, bit_or}
-use Rattle.std.proofs.lemmas.Bool.{lt-ltb, le-ltb}
+use Rattle.std.proofs.lemmas.Bool.{lt-ltb}
 use Rattle.std.proofs.lemmas.Bool.Decides.{nat_tests}
-use Rattle.labels.specs.Readings.{Reading, Same, fixed, negated, both, either, seen}
+use Rattle.labels.specs.Readings.{Same, fixed, negated, both, either, seen}
 use Rattle.strips.specs.declared.Strip.{Strip}
 use Rattle.strips.specs.Masks.{strip, bit}
 use Rattle.strips.proofs.Keeping.{Held, held_same, held_both, held_either, held_negated, held_fixed, held_seen}
-use Rattle.strips.proofs.Bits.{bit_of_and, bit_of_or, bit_not, bit_ones, bit_zero}
+use Rattle.strips.proofs.Bits.{bit_of_and, bit_of_or, bit_not, bit_ones}
 
 holding : (x : Strip) → Held 64 (strip x.weak x.strong)
 holding x = record { sound = x.sound; stays_weak = x.stays_weak; stays_strong = x.stays_strong }

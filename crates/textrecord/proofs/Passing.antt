@@ -1,12 +1,10 @@
-use Rattle.std.proofs.Common.{◌≡◌, ℕ, zero, suc, ◌+◌, ◌-◌, ◌<◌, ◌≤◌, Bool, true, false, cond, ◌&&◌, eqb, ltb, leb, ◌⊎◌, List, [], ◌∷◌, ◌++◌, length, get_or, take, drop, sym, refl, ap, ◌∙◌, subst, inl, inr, ⊎_elim, arith, length-append}
-use Rattle.std.specs.List.{AllByRecursion as All}
+use Rattle.std.proofs.Common.{◌≡◌, ℕ, zero, suc, ◌+◌, ◌<◌, ◌≤◌, true, false, eqb, ltb, leb, List, [], ◌∷◌, ◌++◌, length, drop, sym, refl, ap, ◌∙◌, subst, ⊎_elim, arith, length-append}
 use Rattle.std.proofs.lemmas.List.{drop_at, drop-drop}
 use Rattle.std.proofs.lemmas.Bool.{eq-eqb, ne_eqb, eqb-true, leb-true, ltb-true, le-leb, lt-ltb, and_parts, and_from, cases_eq, cases_Bool, both_ways, cond-true, cond-false}
 use Rattle.logic.specs.declared.types.State.{State}
 use Rattle.fields.specs.Lines.{Free, FirstLine, line_limit, number_limit}
-use Rattle.fields.specs.Kinds.{Shows, Fits}
 use Rattle.fields.specs.Runs.{Run}
-use Rattle.traces.specs.Traces.{trace_line, trace_kind, Formed, Allowed}
+use Rattle.traces.specs.Traces.{trace_line, Formed, Allowed}
 use Rattle.textrecord.specs.Listed.{Passes, before, state_in, same_bytes, allowed, passes, states_from}
 use Rattle.textrecord.proofs.Extract.{extracted}
 

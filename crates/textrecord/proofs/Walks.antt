@@ -1,6 +1,5 @@
-use Rattle.std.proofs.Common.{◌≡◌, ℕ, zero, suc, ◌+◌, ◌-◌, ◌<◌, ◌≤◌, ◌⊎◌, List, [], ◌∷◌, ◌++◌, length, get_or, take, drop, Ok, Err, sym, refl, ap, ◌∙◌, subst, inl, inr, ⊎_elim, arith, length-append}
+use Rattle.std.proofs.Common.{◌≡◌, ℕ, zero, suc, ◌+◌, ◌<◌, ◌≤◌, ◌⊎◌, List, [], ◌∷◌, ◌++◌, length, get_or, take, drop, Ok, Err, sym, refl, ap, ◌∙◌, subst, ⊎_elim, arith, length-append}
 use Rattle.std.proofs.lemmas.List.{get_or-take, get_or_push, get_or_past}
-use Rattle.std.proofs.lemmas.Bool.{cases_lt}
 use Rattle.logic.specs.declared.types.State.{State}
 use Rattle.logic.specs.States.{blank, state_at}
 use Rattle.faults.specs.declared.line.LineFault.{LineFault}
@@ -10,7 +9,7 @@ use Rattle.fields.proofs.Judged.{rest_from, taken_at, refused_at}
 use Rattle.traces.specs.declared.states.StateLine.{StateLine}
 use Rattle.traces.specs.Traces.{trace_kind, Reads}
 use Rattle.traces.proofs.Unique.{one_state, fit_or_refused}
-use Rattle.textrecord.specs.Listed.{Passes, Listed, states_of, states_from, ListsLines, OneList}
+use Rattle.textrecord.specs.Listed.{Passes, Listed, states_of, ListsLines, OneList}
 use Rattle.textrecord.proofs.Passing.{run_from}
 
 pub lists_lines_lem : ListsLines

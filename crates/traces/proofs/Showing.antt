@@ -1,10 +1,10 @@
-use Rattle.std.proofs.Common.{◌≡◌, ℕ, List, [], ◌∷◌, codes, decimal, sym, refl, ap, ◌∙◌}
+use Rattle.std.proofs.Common.{◌≡◌, ℕ, List, [], ◌∷◌, codes, decimal, refl}
 use Rattle.std.specs.List.{AllByRecursion as All}
 use Rattle.logic.specs.declared.types.Reference.{Reference}
 use Rattle.logic.specs.declared.types.State.{State}
 use Rattle.fields.specs.Fields.{Solid}
 use Rattle.fields.proofs.Parted.{solid_decimal, same_small}
-use Rattle.fields.proofs.Shown.{shown, Led, Broken, broken, shown_unique}
+use Rattle.fields.proofs.Shown.{Led, Broken, broken, shown_unique}
 use Rattle.fields.specs.Kinds.{ShowsNone}
 use Rattle.traces.specs.Traces.{trace_kind, trace_line, Formed}
 

@@ -1,4 +1,4 @@
-use Rattle.std.proofs.Common.{◌≡◌, ℕ, ◌+◌, List, drop, Ok, Err, Result, ap}
+use Rattle.std.proofs.Common.{◌≡◌, ℕ, ◌+◌, List, drop, Ok, Err, ap}
 use Rattle.logic.specs.declared.types.State.{State}
 use Rattle.faults.specs.declared.line.LineFault.{LineFault}
 use Rattle.fields.specs.Kinds.{Fits, Refuses}

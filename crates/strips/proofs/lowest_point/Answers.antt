@@ -1,7 +1,6 @@
 use Rattle.std.proofs.Common.{◌≡◌, ◌+◌, ◌-◌, sym, refl, ap, ◌∙◌, arith, rules}
 use lib.Count.{count_trailing_zeros}
 use Rattle.strips.specs.Masks.{bit}
-use Rattle.std.proofs.lemmas.Nat.{trailing_le}
 use Rattle.strips.proofs.Bits.{bit_zero, lowest}
 use Rattle.strips.proofs.lowest_point.Goals as goal
 

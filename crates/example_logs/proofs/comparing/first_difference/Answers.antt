@@ -1,4 +1,4 @@
-use Rattle.std.proofs.Common.{◌≡◌, ℕ, ◌+◌, ◌<◌, ◌≤◌, length, get_or, take, sym, ap, ◌∙◌, arith}
+use Rattle.std.proofs.Common.{◌≡◌, ℕ, ◌<◌, length, get_or, sym, arith}
 use Rattle.std.proofs.lemmas.List.{take_more_same}
 use Rattle.example_logs.proofs.Parting.{ends_counted, ends_passed, parted, same}
 use Rattle.example_logs.proofs.comparing.first_difference.Goals as goal

@@ -1,5 +1,4 @@
-use Rattle.std.proofs.Common.{◌≡◌, List, IfOk, Ok, Err, vec_items, string_bytes, ap, ◌∙◌}
-use Rattle.watch_lib.specs.declared.lines.Line.{Line}
+use Rattle.std.proofs.Common.{◌≡◌, IfOk, Ok, Err, vec_items, string_bytes, ap, ◌∙◌}
 use Rattle.example_logs.specs.Output.{lines_text, Printed}
 use Rattle.example_logs.proofs.output.output_of.Goals as goal
 

@@ -1,4 +1,4 @@
-use Rattle.std.proofs.Common.{◌≡◌, ◌+◌, ◌-◌, length, take, drop, sym, subst, arith}
+use Rattle.std.proofs.Common.{◌≡◌, ◌+◌, ◌-◌, length, take, drop, subst, arith}
 use Rattle.fields.specs.Lines.{FirstLine}
 use Rattle.fields.proofs.Ends.{line_by_end}
 use Rattle.fields.proofs.lines.first_line.Goals as goal

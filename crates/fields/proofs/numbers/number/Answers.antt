@@ -1,8 +1,5 @@
-use Rattle.std.proofs.Common.{◌≡◌, ◌^◌, ◌<◌, ◌≤◌, length, get_or, take, sym, ◌∙◌, subst, arith, rules}
-use Rattle.std.specs.Str.Parse.{digits_value, AllDigits}
-use Rattle.std.proofs.lemmas.List.{take_all}
-use Rattle.fields.specs.Lines.{Number}
-use Rattle.fields.proofs.Numerals.{Form, number_form, form_number, so_far, digit_step, no_digit, ended}
+use Rattle.std.proofs.Common.{◌^◌, ◌<◌, arith}
+use Rattle.fields.proofs.Numerals.{Form, number_form, so_far, digit_step, no_digit, ended}
 use Rattle.fields.proofs.numbers.number.Goals as goal
 
 pub returns-then-text-eq0 : goal.returns-then-text-eq0

@@ -1,4 +1,4 @@
-use Rattle.std.proofs.Common.{drop, sym, ap, subst, arith}
+use Rattle.std.proofs.Common.{drop, sym, subst, arith}
 use Rattle.fields.specs.Fields.{Stop}
 use Rattle.fields.proofs.Parted.{stop_at, part_of, first_of}
 use Rattle.fields.proofs.parts.field_at.Goals as goal

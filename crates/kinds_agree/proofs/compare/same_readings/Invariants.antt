@@ -1,4 +1,4 @@
-use Rattle.std.proofs.Common.{◌≡◌, ℕ, ◌≤◌, Bool}
+use Rattle.std.proofs.Common.{◌≤◌}
 use Rattle.labels.specs.Readings.{Same}
 use Rattle.kinds_agree.proofs.compare.same_readings.Given as goal
 

@@ -1,6 +1,5 @@
-use Rattle.std.proofs.Common.{◌≡◌, ◌+◌, ◌*◌, ◌<◌, ◌≤◌, true, false, List, length, sym, refl, ◌∙◌, subst, arith}
+use Rattle.std.proofs.Common.{◌+◌, ◌*◌, ◌<◌, List, length, sym, refl, subst, arith}
 use Rattle.logic.specs.States.{state_at}
-use Rattle.logic.specs.Tables.{loose}
 use Rattle.labelling.proofs.Nodes.{row_below}
 use Rattle.labelling.proofs.Bounds.{told_start, told_end, told_skip, told_turn, rest_turn, parts_told, unbound}
 use Rattle.labelling.specs.Bound.{RestKept}

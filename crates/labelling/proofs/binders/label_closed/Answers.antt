@@ -1,9 +1,8 @@
-use Rattle.std.proofs.Common.{◌≡◌, ℕ, ◌+◌, ◌*◌, ◌<◌, ◌≤◌, true, false, length, get_or, replicate, sym, refl, ◌∙◌, subst, ⊎_elim, arith}
+use Rattle.std.proofs.Common.{◌≡◌, ℕ, ◌<◌, ◌≤◌, false, get_or, replicate, ⊎_elim, arith}
 use lib.ListN.{get_or-replicate, length-replicate}
 use Rattle.std.proofs.lemmas.Bool.{cases_lt}
 use Rattle.std.proofs.lemmas.List.{get_or_past}
 use Rattle.logic.specs.States.{state_at}
-use Rattle.logic.specs.Tables.{tree}
 use Rattle.logic.specs.declared.types.Formula.TheVariants.{True, Bind, Some}
 use Rattle.labelling.specs.Tells.{row}
 use Rattle.labelling.proofs.Nodes.{row_below, parts_below, within_range, tells_node}

@@ -1,6 +1,5 @@
-use Rattle.std.proofs.Common.{◌≡◌, ◌+◌, ◌*◌, ◌<◌, ◌≤◌, true, false, List, length, get_or, sym, refl, ◌∙◌, subst, arith}
+use Rattle.std.proofs.Common.{◌+◌, ◌*◌, List, length, sym, refl, ◌∙◌, subst, arith}
 use Rattle.logic.specs.States.{state_at}
-use Rattle.logic.specs.Tables.{tree}
 use Rattle.labelling.proofs.Nodes.{row_below}
 use Rattle.labelling.specs.Bound.{ClosedTold, RestKept}
 use Rattle.labelling.proofs.Bounds.{closed_more, rest_more}

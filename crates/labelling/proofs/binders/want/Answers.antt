@@ -1,4 +1,4 @@
-use Rattle.std.proofs.Common.{true, false, inr, arith, get_or-set_same}
+use Rattle.std.proofs.Common.{true, false, inr, get_or-set_same}
 use Rattle.labelling.proofs.Cones.{grown_set}
 use Rattle.labelling.proofs.binders.want.Goals as goal
 

@@ -1,4 +1,4 @@
-use Rattle.std.proofs.Common.{◌≡◌, ◌+◌, ◌-◌, ◌<◌, ◌≤◌, true, false, length, get_or, sym, refl, ap, ◌∙◌, subst, arith}
+use Rattle.std.proofs.Common.{◌-◌, ◌<◌, length, arith}
 use Rattle.labelling.proofs.Cones.{cone_start, cone_plain, cone_turn, cone_skip, cone_end}
 use Rattle.labelling.proofs.binders.want_cone.Goals as goal
 

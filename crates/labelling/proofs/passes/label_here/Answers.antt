@@ -1,4 +1,4 @@
-use Rattle.std.proofs.Common.{◌≡◌, ◌+◌, min, arith}
+use Rattle.std.proofs.Common.{◌+◌, min, arith}
 use Rattle.std.proofs.lemmas.Bool.Decides.{Decides-at, Decides-like}
 use Rattle.logic.specs.States.{state_at}
 use Rattle.logic.specs.Logic.{Kept}

@@ -1,4 +1,4 @@
-use Rattle.std.proofs.Common.{◌≡◌, ℕ, ◌+◌, ◌*◌, ◌≤◌, true, false, length, get_or, sym, refl, subst, arith}
+use Rattle.std.proofs.Common.{get_or, refl, arith}
 use Rattle.logic.specs.States.{state_at}
 use Rattle.logic.specs.Tables.{tree}
 use Rattle.logic.specs.declared.types.Formula.TheVariants.{True, Not, And, Or, Next, Previous, Until, Since, At}

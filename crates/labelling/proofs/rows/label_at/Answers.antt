@@ -1,5 +1,5 @@
-use Rattle.std.proofs.Common.{◌≡◌, sym, ap, ◌∙◌, arith}
-use Rattle.labelling.specs.Rows.{cell, part}
+use Rattle.std.proofs.Common.{sym, ◌∙◌, arith}
+use Rattle.labelling.specs.Rows.{part}
 use Rattle.labelling.proofs.Cells.{cell_read, cell_past}
 use Rattle.labelling.proofs.Places.{part_read, length_part}
 use Rattle.labelling.proofs.rows.label_at.Goals as goal

@@ -1,4 +1,4 @@
-use Rattle.std.proofs.Common.{◌≡◌, ◌+◌, cond, ltb, ap, ◌∙◌, arith}
+use Rattle.std.proofs.Common.{◌+◌, cond, ltb, ap, ◌∙◌, arith}
 use Rattle.logic.proofs.Uniques.{unique}
 use Rattle.labels.specs.Readings.{seen}
 use Rattle.labelling.specs.Rows.{cell, part}

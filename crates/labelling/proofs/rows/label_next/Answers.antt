@@ -1,4 +1,4 @@
-use Rattle.std.proofs.Common.{◌≡◌, ◌+◌, subst, arith}
+use Rattle.std.proofs.Common.{◌+◌, subst, arith}
 use Rattle.labels.specs.Readings.{Same}
 use Rattle.labelling.specs.Rows.{cell, part}
 use Rattle.labelling.proofs.Places.{length_part, part_front}

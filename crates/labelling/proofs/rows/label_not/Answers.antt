@@ -1,4 +1,4 @@
-use Rattle.std.proofs.Common.{◌≡◌, not, sym, ap, ◌∙◌, arith}
+use Rattle.std.proofs.Common.{not, arith}
 use Rattle.labels.specs.Readings.{negated}
 use Rattle.labelling.specs.Rows.{cell, part}
 use Rattle.labelling.proofs.Places.{length_part}

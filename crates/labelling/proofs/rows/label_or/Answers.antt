@@ -1,4 +1,4 @@
-use Rattle.std.proofs.Common.{◌≡◌, ◌&&◌, ◌||◌, sym, ap, ◌∙◌, arith}
+use Rattle.std.proofs.Common.{arith}
 use Rattle.labels.specs.Readings.{either}
 use Rattle.labelling.specs.Rows.{cell, part}
 use Rattle.labelling.proofs.Places.{length_part}

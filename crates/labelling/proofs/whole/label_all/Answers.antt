@@ -1,8 +1,8 @@
-use Rattle.std.proofs.Common.{◌≡◌, ℕ, ◌+◌, ◌*◌, ◌<◌, ◌≤◌, List, length, get_or, drop, sym, refl, ap, ◌∙◌, subst, zero-add, arith}
+use Rattle.std.proofs.Common.{◌≡◌, ℕ, ◌*◌, ◌<◌, ◌≤◌, length, get_or, drop, sym, ap, ◌∙◌, subst, zero-add, arith}
 use Rattle.labels.specs.Readings.{Same, opened}
 use Rattle.logic.specs.States.{state_at}
 use Rattle.logic.specs.Lawful.{LawfulTo}
-use Rattle.labelling.specs.Whole.{Labelled, LabelOf, place}
+use Rattle.labelling.specs.Whole.{LabelOf, place}
 use Rattle.labelling.proofs.Publishes.{label_of, part_cell}
 use Rattle.labelling.proofs.whole.label_all.Goals as goal
 

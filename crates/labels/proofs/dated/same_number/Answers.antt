@@ -1,4 +1,4 @@
-use Rattle.std.proofs.Common.{◌≡◌, sym, ap, ◌∙◌, w16, SFits, to_z, of_z, rules}
+use Rattle.std.proofs.Common.{sym, ap, ◌∙◌, w16, SFits, to_z, of_z, rules}
 use Rattle.std.proofs.lemmas.Int.{to_z-of_z}
 use Rattle.std.proofs.lemmas.Bool.{eqb-true, eq-eqb}
 use Rattle.labels.proofs.Dates.{number_by_meaning}

@@ -1,7 +1,7 @@
-use Rattle.std.proofs.Common.{◌+◌, sym, ap, ◌∙◌, inl, arith}
+use Rattle.std.proofs.Common.{◌+◌, inl, arith}
 use Rattle.std.proofs.lemmas.Result.{err_from_is_err_and}
 use Rattle.rulestexts.specs.Blocks.{at_count}
-use Rattle.rulestexts.proofs.Progress.{formulas_start, formula_range, formulas_count, formulas_more, formula_refused, formula_dangles}
+use Rattle.rulestexts.proofs.Progress.{formula_range, formulas_count, formulas_more, formula_refused, formula_dangles}
 use Rattle.rulestexts.proofs.sections.read_formulas.Goals as goal
 
 pub returns-in_err-head : goal.returns-in_err-head

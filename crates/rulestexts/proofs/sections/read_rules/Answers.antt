@@ -1,8 +1,7 @@
 use Rattle.std.proofs.Common.{◌+◌, arith}
 use Rattle.std.proofs.lemmas.Result.{err_from_is_err_and}
 use Rattle.table.specs.Tables.{formulas_of}
-use Rattle.rulestexts.specs.Blocks.{at_count}
-use Rattle.rulestexts.proofs.Progress.{rules_start, rules_more, rule_refused, rule_unfit}
+use Rattle.rulestexts.proofs.Progress.{rules_more, rule_refused, rule_unfit}
 use Rattle.rulestexts.proofs.sections.read_rules.Goals as goal
 
 pub returns-in_err-line : goal.returns-in_err-line

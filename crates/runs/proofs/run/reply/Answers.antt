@@ -1,4 +1,4 @@
-use Rattle.std.proofs.Common.{◌≡◌, ℕ, ◌+◌, true, false, eqb, List, length, get_or, is_ok, sym, refl, ap, ◌∙◌, subst, ⊎_elim}
+use Rattle.std.proofs.Common.{◌≡◌, ◌+◌, true, false, eqb, List, length, get_or, is_ok, sym, refl, ap, ◌∙◌, subst, ⊎_elim}
 use Rattle.std.specs.List.{slice_get}
 use Rattle.std.proofs.lemmas.Bool.{cases_Bool}
 use Rattle.expectations.specs.Expectations.{verdict, standing, tallied, notices, no_rule}
@@ -10,7 +10,6 @@ use Rattle.monitor.specs.declared.live.Monitor.{Monitor}
 use Rattle.monitor.specs.Book.{table_of, rules_in, ground_of}
 use Rattle.runs.specs.Meant.{grown_to}
 use Rattle.runs.proofs.Replies.{as_answer_lem, cond_same, append_grown, foreign_fails}
-use Rattle.runs.proofs.run.reply.Given as given
 use Rattle.runs.proofs.run.reply.Goals as goal
 
 pub returns-in-Append : goal.returns-in-Append

@@ -1,4 +1,4 @@
-use Rattle.std.proofs.Common.{◌≡◌, ℕ, ◌<◌, ◌≤◌, true, List, [], length, drop, sym, refl, ap, ◌∙◌, subst, ap₂, arith}
+use Rattle.std.proofs.Common.{◌≡◌, ℕ, ◌<◌, List, [], length, sym, refl, ap, ◌∙◌, subst, ap₂, arith}
 use Rattle.logic.specs.declared.types.State.{State}
 use Rattle.table.specs.declared.finished.Table.{Table}
 use Rattle.table.specs.Tables.{formulas_of, rules_of}
@@ -14,7 +14,6 @@ use Rattle.logic.specs.Lawful.{LawfulRecord}
 use Rattle.logic.proofs.Beginnings.{lawful_goes_on_lem}
 use Rattle.runs.specs.Meant.{ground, Meant, GoesOn}
 use Rattle.runs.proofs.Founding.{founded, meant, empty}
-use Rattle.runs.proofs.run.run.Given as given
 use Rattle.runs.proofs.run.run.Goals as goal
 
 abbrev on : Table → ℕ → Ground

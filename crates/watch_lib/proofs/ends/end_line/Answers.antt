@@ -1,4 +1,4 @@
-use Rattle.std.proofs.Common.{◌≡◌, ℕ, ◌+◌, ◌*◌, ◌<◌, length, drop, sym, subst, ap₂, arith}
+use Rattle.std.proofs.Common.{◌≡◌, ◌+◌, ◌*◌, ◌<◌, length, drop, sym, subst, ap₂, arith}
 use Rattle.growth.specs.Growth.{labels_of}
 use Rattle.expectations.specs.declared.types.Tally.{Tally}
 use Rattle.monitor.specs.Book.{table_of, rules_in}

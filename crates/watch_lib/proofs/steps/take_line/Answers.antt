@@ -1,4 +1,4 @@
-use Rattle.std.proofs.Common.{◌≡◌, sym, refl, ap, ◌∙◌, subst}
+use Rattle.std.proofs.Common.{◌≡◌, sym, refl, ap, subst}
 use Rattle.monitor.specs.Book.{ground_of}
 use Rattle.monitor.specs.declared.live.Monitor.{Monitor}
 use Rattle.traces.specs.Traces.{trace_kind}

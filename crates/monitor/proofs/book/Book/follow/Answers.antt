@@ -1,4 +1,4 @@
-use Rattle.std.proofs.Common.{◌≡◌, ℕ, ◌*◌, ◌≤◌, List, length, take, sym, refl, ap, ◌∙◌, subst, ap₂, arith, length-take}
+use Rattle.std.proofs.Common.{◌≡◌, ◌≤◌, List, length, sym, refl, ◌∙◌, subst, arith, length-take}
 use Rattle.logic.specs.Lawful.{LawfulRecord}
 use Rattle.labels.specs.declared.dated.Dated.{Dated}
 use Rattle.table.specs.declared.finished.Table.{Table}

@@ -1,4 +1,4 @@
-use Rattle.std.proofs.Common.{◌≡◌, ◌+◌, ◌-◌, ◌<◌, ◌≤◌, List, ◌++◌, length, get_or, drop, sym, ap, ◌∙◌, subst, arith}
+use Rattle.std.proofs.Common.{◌≡◌, ◌+◌, ◌-◌, ◌<◌, ◌≤◌, List, ◌++◌, length, get_or, drop, sym, subst, arith}
 use Rattle.std.specs.List.{slice_get}
 use Rattle.logic.specs.declared.types.Rule.{Rule}
 use Rattle.expectations.specs.Expectations.{no_rule, from_rule, from_state, notices}

@@ -1,4 +1,4 @@
-use Rattle.std.proofs.Common.{◌≡◌, ◌≢◌, get_or, ap, ◌∙◌, arith, below_more}
+use Rattle.std.proofs.Common.{◌≢◌, get_or, ap, ◌∙◌, arith, below_more}
 use Rattle.std.proofs.lemmas.List.{get_or-set_same, get_or-set_other}
 use Rattle.expectations.specs.Expectations.{no_rule, no_tally, tallied}
 use Rattle.monitor.specs.Book.{held}

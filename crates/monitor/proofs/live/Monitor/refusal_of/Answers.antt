@@ -1,4 +1,4 @@
-use Rattle.std.proofs.Common.{◌≡◌, length, sym, ◌∙◌, arith}
+use Rattle.std.proofs.Common.{arith}
 use Rattle.monitor.specs.Book.{ground_of}
 use Rattle.monitor.proofs.Appending.{refused_full, refused_next}
 use Rattle.monitor.proofs.live.Monitor.refusal_of.Goals as goal

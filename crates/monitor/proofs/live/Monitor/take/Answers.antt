@@ -1,6 +1,5 @@
-use Rattle.std.proofs.Common.{◌≡◌, ℕ, ◌+◌, ◌<◌, ◌≤◌, List, [], ◌∷◌, ◌++◌, length, sym, refl, ap, ◌∙◌, subst, arith}
+use Rattle.std.proofs.Common.{◌≡◌, ◌+◌, ◌≤◌, [], ◌∷◌, ◌++◌, length, sym, ap, subst, arith}
 use Rattle.std.proofs.lemmas.List.{length_push}
-use Rattle.logic.specs.declared.types.State.{State}
 use Rattle.logic.specs.Lawful.{LawfulRecord}
 use Rattle.answers.proofs.Tested.{takes_fit, takes_lawful}
 use Rattle.monitor.specs.Book.{ground_of, Faithful}

@@ -1,4 +1,4 @@
-use Rattle.std.proofs.Common.{◌≡◌, length, take, sym, ◌∙◌, arith, length-take, rules}
+use Rattle.std.proofs.Common.{arith, length-take, rules}
 use Rattle.records.proofs.Replays.{replayed_length}
 use Rattle.records.proofs.change_record.ChangeRecord.held.Goals as goal
 
