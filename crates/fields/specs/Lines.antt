@@ -1,10 +1,10 @@
 -- Lines and numbers, as a text has them.
 use Rattle.std.specs.Prelude.{◌≡◌, ℕ, ◌^◌, ◌<◌, ◌≤◌, List, ◌∷◌, ◌++◌, length, decimal, ◌≢◌, slice_index, slice_index_or}
-use Rattle.std.specs.List.{AllByRecursion as All}
+use Rattle.std.specs.List.{AllByRecursion}
 
 -- a text in which byte c does not occur
 abbrev pub Free : (c : ℕ) → List ℕ → Type 0
-Free c t = All (λ b. b ≢ c) t
+Free c t = AllByRecursion (λ b. b ≢ c) t
 
 -- ── Numbers: `0`, or one to ten decimal digits without a leading zero ──
 abbrev pub Small : ℕ → Type 0

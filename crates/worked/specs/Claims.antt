@@ -1,6 +1,6 @@
 -- What the tables of worked examples claim.
 use Rattle.std.specs.Prelude.{ℕ, suc, ◌<◌, ◌≤◌, min, Bool, false, length, Decides, slice_index_or}
-use Rattle.std.specs.List.{AllByRecursion as All}
+use Rattle.std.specs.List.{AllByRecursion}
 use Rattle.logic.specs.States.{state_at}
 use Rattle.logic.specs.Logic.{Reads, strong}
 use Rattle.logic.specs.Lawful.{LawfulRecord, NominalTaken, ReferenceUnfit}
@@ -32,10 +32,10 @@ pub record RightRefusal (k : Offered) : Type 0 where
   pub reference : Decides k.reference_unfit (ReferenceUnfit (state_at k.states) k.state)
 
 pub record WorkedExamples : Type 0 where
-  pub right_labels : All RightLabel labels
-  pub right_raisings : All RightRaising raisings
-  pub right_refusals : All RightRefusal offers
+  pub right_labels : AllByRecursion RightLabel labels
+  pub right_raisings : AllByRecursion RightRaising raisings
+  pub right_refusals : AllByRecursion RightRefusal offers
 
 pub record FurtherExamples : Type 0 where
-  pub right_labels : All RightLabel further_labels
-  pub right_refusals : All RightRefusal further_offers
+  pub right_labels : AllByRecursion RightLabel further_labels
+  pub right_refusals : AllByRecursion RightRefusal further_offers
