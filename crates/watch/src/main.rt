@@ -3,10 +3,8 @@
 
 ghost use Rattle.std.specs.Prelude.{◌≤◌, length, IfOk};
 
-use std::env::FillError;
 use std::io;
 use std::io::Read;
-use std::rt::Env;
 use watch_lib::watch::watch;
 
 // One byte more than the longest input, so that a longer one is known for what it is.
@@ -28,19 +26,7 @@ fn read_input(rt: &HostRuntime, buffer: &mut [u8]) -> io::Result<usize>
     Ok(count)
 }
 
-// Whether there is an argument after the program's name, of whatever bytes.
-fn has_argument(rt: &HostRuntime) -> bool {
-    let mut first = [0; 1];
-    !matches!(rt.arg(1, &mut first), Err(FillError::NotPresent))
-}
-
 fn main(rt: HostRuntime) -> io::Result<()> {
-    if has_argument(&rt) {
-        eprintln!(rt;
-            "usage: watch < LOG   (a rules text followed by trace lines; see docs/FORMATS.md)"
-        )?;
-        return Err(io::Error::from(io::ErrorKind::InvalidInput));
-    }
     let mut buffer = [0; ROOM];
     let count = read_input(&rt, &mut buffer)?;
     let lines = watch(rt.alloc(), &buffer[..count])?;
