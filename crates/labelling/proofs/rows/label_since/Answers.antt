@@ -1,4 +1,4 @@
-use Rattle.std.proofs.Common.{arith}
+use Rattle.std.proofs.Common.{arith, rules}
 use Rattle.labelling.specs.Rows.{part}
 use Rattle.labelling.proofs.Places.{length_part}
 use Rattle.labelling.proofs.Fills.{since_start, since_turn}
@@ -11,7 +11,7 @@ loop-p-init g c = since_start _ _ _ _ _ _ _ c.requires.apart.0 c.requires.apart.
 pub loop-p-preserved : goal.loop-p-preserved
 loop-p-preserved g c =
     since_turn _ _ _ _ _ _ _ c.requires.apart.0 c.requires.apart.1 c.requires.apart.2 _ c.loop-p.p _ _ _ _ _ _ (omega arith) c.loop-p.auto.cells
-    c.index-cells-a.is c.index-cells-b.is c.seen_from.ensures c.and.ensures c.or-carried.ensures c.loop-p.invariant
+    c.index-cells-a.is c.index-cells-b.is (search rules) c.and.ensures c.or-carried.ensures c.loop-p.invariant
 
 pub returns : goal.returns
 returns g c =

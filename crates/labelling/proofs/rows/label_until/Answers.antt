@@ -1,4 +1,4 @@
-use Rattle.std.proofs.Common.{arith}
+use Rattle.std.proofs.Common.{arith, rules}
 use Rattle.labelling.specs.Rows.{part}
 use Rattle.labelling.proofs.Places.{length_part}
 use Rattle.labelling.proofs.Fills.{until_start, until_turn}
@@ -6,7 +6,7 @@ use Rattle.labelling.proofs.Tellings.{tells_until}
 use Rattle.labelling.proofs.rows.label_until.Goals as goal
 
 pub loop-p-init : goal.loop-p-init
-loop-p-init g c = until_start _ _ _ _ _ _ _ c.requires.apart.0 c.requires.apart.1 c.requires.apart.2 _ c.unknown-next.ensures
+loop-p-init g c = until_start _ _ _ _ _ _ _ c.requires.apart.0 c.requires.apart.1 c.requires.apart.2 _ (search rules)
 
 pub loop-p-preserved : goal.loop-p-preserved
 loop-p-preserved g c =
