@@ -1,9 +1,11 @@
 -- What the answers are called, in the product's words, with their dates.
-use Rattle.std.specs.Prelude.{ℕ, List, codes}
+use Rattle.std.specs.Prelude.{ℕ, List, ◌++◌, codes, decimal}
 use Rattle.expectations.specs.declared.types.Verdict.{Verdict}
 use Rattle.expectations.specs.declared.types.Verdict.TheVariants as is
 use Rattle.expectations.specs.declared.types.Standing.{Standing}
 use Rattle.expectations.specs.declared.types.Standing.TheVariants.{NotRaised, Pending, Fulfilled, Violated}
+use Rattle.expectations.specs.declared.types.Notice.{Notice}
+use Rattle.expectations.specs.declared.types.Tally.{Tally}
 use Rattle.expectations.specs.declared.types.Event.{Event}
 use Rattle.expectations.specs.declared.types.Event.TheVariants.{Raising, Fulfilling, Violating}
 
@@ -28,3 +30,11 @@ abbrev pub of_event : Event → Told
 of_event Raising = record { number = 0; word = codes "raised"; date = 0 }
 of_event Fulfilling = record { number = 1; word = codes "fulfilled"; date = 0 }
 of_event Violating = record { number = 2; word = codes "violated"; date = 0 }
+
+-- the bytes of a notice, and those of a tally
+abbrev pub notice_text : Notice → List ℕ
+notice_text x = codes "r=" ++ (decimal x.rule ++ (codes " from=" ++ (decimal x.from ++ (codes " is=" ++ (of_event x.event).word))))
+
+abbrev pub tally_text : Tally → List ℕ
+tally_text t =
+    codes "raised=" ++ (decimal t.raised ++ (codes " fulfilled=" ++ (decimal t.fulfilled ++ (codes " violated=" ++ (decimal t.violated ++ (codes " open=" ++ decimal t.pending))))))

@@ -18,19 +18,13 @@ pub fn verdict_of(label: Label, point: usize) -> Verdict
 pub fn is_true_from(label: Label, point: usize) -> bool
     ensures { result ≡ true_from label point }
 {
-    match label {
-        Label::TrueFrom(date) => date == point,
-        Label::Unknown | Label::FalseFrom(_) => false,
-    }
+    label == Label::TrueFrom(point)
 }
 
 pub fn is_false_from(label: Label, point: usize) -> bool
     ensures { result ≡ false_from label point }
 {
-    match label {
-        Label::FalseFrom(date) => date == point,
-        Label::Unknown | Label::TrueFrom(_) => false,
-    }
+    label == Label::FalseFrom(point)
 }
 
 // What has become of a raised expectation, by the label of its content.

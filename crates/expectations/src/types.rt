@@ -1,5 +1,5 @@
 // The label of a formula at a state: unknown (on the shop floor: open), or true or false from a truncation point (a cut) on.
-#[derive(Drop, Clone, Copy)]
+#[derive(Drop, Clone, Copy, PartialEq, Eq, Debug)]
 pub enum Label {
     Unknown,
     TrueFrom(usize),
@@ -7,7 +7,7 @@ pub enum Label {
 }
 
 // A label as one truncation point reads it.
-#[derive(Drop, Clone, Copy)]
+#[derive(Drop, Clone, Copy, PartialEq, Eq, Debug)]
 pub enum Verdict {
     Unknown,
     True,
@@ -16,7 +16,7 @@ pub enum Verdict {
 
 // What has become of a rule's expectation of a state, as one truncation point reads it. The numbers are the dates of the
 // decisions. (On the shop floor, pending is open.)
-#[derive(Drop, Clone, Copy)]
+#[derive(Drop, Clone, Copy, PartialEq, Eq, Debug)]
 pub enum Standing {
     NotRaised,
     Pending,
@@ -24,7 +24,7 @@ pub enum Standing {
     Violated(usize),
 }
 
-#[derive(Drop, Clone, Copy)]
+#[derive(Drop, Clone, Copy, PartialEq, Eq, Debug)]
 pub enum Event {
     Raising,
     Fulfilling,
@@ -32,7 +32,7 @@ pub enum Event {
 }
 
 // An event of the expectation that a rule raised at the state `from`.
-#[derive(Drop, Clone, Copy)]
+#[derive(Drop, Clone, Copy, PartialEq, Eq, Debug)]
 pub struct Notice {
     pub rule: usize,
     pub from: usize,
@@ -40,7 +40,7 @@ pub struct Notice {
 }
 
 // How many expectations a rule has raised, and how many of them are pending, fulfilled and violated.
-#[derive(Drop, Clone, Copy)]
+#[derive(Drop, Clone, Copy, PartialEq, Eq, Debug, Default)]
 pub struct Tally {
     pub raised: usize,
     pub pending: usize,

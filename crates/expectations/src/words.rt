@@ -1,8 +1,9 @@
 // The answers in the product's words.
-ghost use Rattle.std.specs.Prelude.{◌≡◌};
-ghost use Rattle.expectations.specs.Words.{of_verdict, of_standing, of_event};
+ghost use Rattle.std.specs.Prelude.{◌≡◌, Some};
+ghost use Rattle.expectations.specs.Words.{of_verdict, of_standing, of_event, notice_text, tally_text};
 
-use crate::types::{Event, Standing, Verdict};
+use crate::types::{Event, Notice, Standing, Tally, Verdict};
+use std::fmt;
 
 impl Verdict {
     pub fn word(self) -> &'static str
@@ -48,5 +49,57 @@ impl Event {
             Event::Fulfilling => "fulfilled",
             Event::Violating => "violated",
         }
+    }
+}
+
+impl fmt::Display for Verdict {
+    ghost output = { λ x. Some (of_verdict x).word };
+
+    fn fmt<W: fmt::Write>(&self, f: &mut fmt::Formatter<W>) -> fmt::Result {
+        f.write_str(self.word())
+    }
+}
+
+impl fmt::Display for Standing {
+    ghost output = { λ x. Some (of_standing x).word };
+
+    fn fmt<W: fmt::Write>(&self, f: &mut fmt::Formatter<W>) -> fmt::Result {
+        f.write_str(self.word())
+    }
+}
+
+impl fmt::Display for Event {
+    ghost output = { λ x. Some (of_event x).word };
+
+    fn fmt<W: fmt::Write>(&self, f: &mut fmt::Formatter<W>) -> fmt::Result {
+        f.write_str(self.word())
+    }
+}
+
+// The rule, the state that raised the expectation, and what happened.
+impl fmt::Display for Notice {
+    ghost output = { λ x. Some (notice_text x) };
+
+    fn fmt<W: fmt::Write>(&self, f: &mut fmt::Formatter<W>) -> fmt::Result {
+        let Notice { rule, from, event } = *self;
+        write!(f, "r={rule} from={from} is={event}")
+    }
+}
+
+// How many expectations are raised, fulfilled, violated and pending.
+impl fmt::Display for Tally {
+    ghost output = { λ x. Some (tally_text x) };
+
+    fn fmt<W: fmt::Write>(&self, f: &mut fmt::Formatter<W>) -> fmt::Result {
+        let Tally {
+            raised,
+            pending,
+            fulfilled,
+            violated,
+        } = *self;
+        write!(
+            f,
+            "raised={raised} fulfilled={fulfilled} violated={violated} open={pending}"
+        )
     }
 }

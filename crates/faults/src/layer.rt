@@ -1,5 +1,5 @@
 // The layer that refuses a call.
-#[derive(Drop, Clone, Copy)]
+#[derive(Drop, Clone, Copy, PartialEq, Eq, Debug)]
 pub enum Layer {
     Line,
     Table,

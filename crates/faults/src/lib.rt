@@ -2,6 +2,7 @@
 // either of them whole.
 #![tactic(auto)]
 
+pub mod fault;
 pub mod layer;
 pub mod line;
 pub mod read;

@@ -1,8 +1,10 @@
-ghost use Rattle.std.specs.Prelude.{◌≡◌};
 ghost use Rattle.faults.specs.Refusals.{of_line};
 
+use crate::fault::Fault;
+use crate::layer::Layer;
+
 // What is wrong with a line; each case carries the line's place, counted from 1 in the bytes handed in.
-#[derive(Drop, Clone, Copy)]
+#[derive(Drop, Clone, Copy, PartialEq, Eq, Debug)]
 pub enum LineFault {
     // no line end within the bytes that a line may take
     Torn(usize),
@@ -12,10 +14,10 @@ pub enum LineFault {
     Range(usize),
 }
 
-impl LineFault {
-    pub fn number(self) -> u8
-        ensures { result ≡ (of_line self).number }
-    {
+impl Fault for LineFault {
+    ghost told = { of_line };
+
+    fn number(self) -> u8 {
         match self {
             LineFault::Torn(_) => 1,
             LineFault::Form(_) => 2,
@@ -23,9 +25,13 @@ impl LineFault {
         }
     }
 
-    pub fn line(self) -> usize
-        ensures { result ≡ (of_line self).place }
-    {
+    fn layer(self) -> Layer {
+        match self {
+            LineFault::Torn(_) | LineFault::Form(_) | LineFault::Range(_) => Layer::Line,
+        }
+    }
+
+    fn place(self) -> usize {
         match self {
             LineFault::Torn(line) | LineFault::Form(line) | LineFault::Range(line) => line,
         }

@@ -2,12 +2,13 @@ ghost use Rattle.std.specs.Prelude.{◌≡◌};
 ghost use Rattle.faults.specs.Refusals.{refusal};
 ghost use Rattle.faults.specs.declared.read.ReadFault.TheVariants.{Line, Table};
 
+use crate::fault::Fault;
 use crate::layer::Layer;
 use crate::line::LineFault;
 use crate::table::TableFault;
 
 // Why a reader refuses a text.
-#[derive(Drop, Clone, Copy)]
+#[derive(Drop, Clone, Copy, PartialEq, Eq, Debug)]
 pub enum ReadFault {
     Line(LineFault),
     Table(TableFault),
@@ -29,31 +30,27 @@ impl From<TableFault> for ReadFault {
     }
 }
 
-impl ReadFault {
-    pub fn number(self) -> u8
-        ensures { result ≡ (refusal self).number }
-    {
+impl Fault for ReadFault {
+    ghost told = { refusal };
+
+    fn number(self) -> u8 {
         match self {
             ReadFault::Line(fault) => fault.number(),
             ReadFault::Table(fault) => fault.number(),
         }
     }
 
-    pub fn layer(self) -> Layer
-        ensures { result ≡ (refusal self).layer }
-    {
+    fn layer(self) -> Layer {
         match self {
-            ReadFault::Line(_) => Layer::Line,
-            ReadFault::Table(_) => Layer::Table,
+            ReadFault::Line(fault) => fault.layer(),
+            ReadFault::Table(fault) => fault.layer(),
         }
     }
 
-    pub fn line(self) -> usize
-        ensures { result ≡ (refusal self).place }
-    {
+    fn place(self) -> usize {
         match self {
-            ReadFault::Line(fault) => fault.line(),
-            ReadFault::Table(fault) => fault.line(),
+            ReadFault::Line(fault) => fault.place(),
+            ReadFault::Table(fault) => fault.place(),
         }
     }
 }

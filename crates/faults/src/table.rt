@@ -1,8 +1,10 @@
-ghost use Rattle.std.specs.Prelude.{◌≡◌};
 ghost use Rattle.faults.specs.Refusals.{of_table};
 
+use crate::fault::Fault;
+use crate::layer::Layer;
+
 // What is wrong with the formula or the rule that a line adds to a table; each case carries the line's place.
-#[derive(Drop, Clone, Copy)]
+#[derive(Drop, Clone, Copy, PartialEq, Eq, Debug)]
 pub enum TableFault {
     // a part is not below its formula, or a rule names no formula
     Dangling(usize),
@@ -10,19 +12,23 @@ pub enum TableFault {
     Loose(usize),
 }
 
-impl TableFault {
-    pub fn number(self) -> u8
-        ensures { result ≡ (of_table self).number }
-    {
+impl Fault for TableFault {
+    ghost told = { of_table };
+
+    fn number(self) -> u8 {
         match self {
             TableFault::Dangling(_) => 4,
             TableFault::Loose(_) => 5,
         }
     }
 
-    pub fn line(self) -> usize
-        ensures { result ≡ (of_table self).place }
-    {
+    fn layer(self) -> Layer {
+        match self {
+            TableFault::Dangling(_) | TableFault::Loose(_) => Layer::Table,
+        }
+    }
+
+    fn place(self) -> usize {
         match self {
             TableFault::Dangling(line) | TableFault::Loose(line) => line,
         }

@@ -2,7 +2,7 @@
 
 // A reference of a state to a state: its kind, from 1 to 15, and the number of the state referred to. Kind 0 with target 0 is
 // no reference. (On the shop floor: a link.)
-#[derive(Drop, Clone, Copy)]
+#[derive(Drop, Clone, Copy, PartialEq, Eq, Debug, Default)]
 pub struct Reference {
     pub kind: u8,
     pub target: u16,
@@ -10,7 +10,7 @@ pub struct Reference {
 
 // One state of a log: signal b is bit b of `signals`, the lowest being bit 0. A nominal names at most one state of a log, and
 // 0 is no nominal. (On the shop floor: a mark.)
-#[derive(Drop, Clone, Copy)]
+#[derive(Drop, Clone, Copy, PartialEq, Eq, Debug, Default)]
 pub struct State {
     pub signals: u32,
     pub nominal: u8,
@@ -20,7 +20,7 @@ pub struct State {
 
 // One formula of a table, over the numbers of its parts. `Variable` and `Reference` speak of the state that a `Bind` or a
 // `Some` above them binds; `Reference` is a state-referencing proposition (on the shop floor: a link).
-#[derive(Drop, Clone, Copy)]
+#[derive(Drop, Clone, Copy, PartialEq, Eq, Debug)]
 pub enum Formula {
     True,
     Signal(u8),
@@ -40,7 +40,7 @@ pub enum Formula {
 }
 
 // When the condition holds, the content is expected; both are numbers of formulas.
-#[derive(Drop, Clone, Copy)]
+#[derive(Drop, Clone, Copy, PartialEq, Eq, Debug, Default)]
 pub struct Rule {
     pub condition: usize,
     pub content: usize,

@@ -1,12 +1,12 @@
 // Why the monitor's layer declines a call.
 #![tactic(auto)]
 
-ghost use Rattle.std.specs.Prelude.{◌≡◌};
-ghost use Rattle.refusals.specs.Numbers.{told};
+ghost use Rattle.refusals.specs.Numbers.{told as told_of};
 
+use faults::fault::Fault;
 use faults::layer::Layer;
 
-#[derive(Drop, Clone, Copy)]
+#[derive(Drop, Clone, Copy, PartialEq, Eq, Debug)]
 pub enum Refusal {
     // The record's count of states is not the monitor's.
     ForeignRecord,
@@ -28,10 +28,10 @@ pub enum Refusal {
     NoSuchPoint,
 }
 
-impl Refusal {
-    pub fn number(self) -> u8
-        ensures { result ≡ (told self).number }
-    {
+impl Fault for Refusal {
+    ghost told = { told_of };
+
+    fn number(self) -> u8 {
         match self {
             Refusal::ForeignRecord => 6,
             Refusal::TooManyStates => 7,
@@ -46,20 +46,15 @@ impl Refusal {
         }
     }
 
-    pub fn layer(self) -> Layer
-        ensures { result ≡ (told self).layer }
-    {
+    fn layer(self) -> Layer {
         let _ = self;
         Layer::Monitor
     }
 
     // The state that the refusal is about, or 0.
-    pub fn place(self) -> usize
-        ensures { result ≡ (told self).place }
-    {
+    fn place(self) -> usize {
         match self {
-            Refusal::NominalTaken(state) => state,
-            Refusal::ReferenceUnfit(state) => state,
+            Refusal::NominalTaken(state) | Refusal::ReferenceUnfit(state) => state,
             _ => 0,
         }
     }
