@@ -1,40 +1,44 @@
 -- Two texts that begin alike. Assumes nothing.
-use Rattle.std.proofs.Common.{◌≡◌, ℕ, zero, suc, ◌+◌, ◌<◌, ◌≤◌, cond, eqb, List, [], ◌∷◌, ◌++◌, length, get_or, take, drop, Some, sym, refl, ap, ◌∙◌, add-zero, add_assoc, zero-add, arith}
-use Rattle.std.proofs.lemmas.Bool.{eq-eqb, ne_eqb}
-use Rattle.std.proofs.lemmas.List.{take_more, take_all, take-append-drop}
+use Rattle.std.proofs.Common.{◌≡◌, ℕ, suc, ◌+◌, ◌≤◌, Bool, true, false, cond, ◌&&◌, eqb, List, [], ◌∷◌, ◌++◌, length, take, Some, refl, sym, ap, ◌∙◌, arith, rules}
+use lib.Pointwise.{pointwise}
+use Rattle.std.specs.List.{zip, count_by, prefix_len}
+use Rattle.std.proofs.lemmas.Bool.{eqb-true, eqb-false}
+use Rattle.std.proofs.lemmas.List.Sums.{sum_by-cons}
 use Rattle.example_logs.specs.Comparing.{line_ends, Apart, Compared}
 
-ends_append : (xs : List ℕ) (x : ℕ) → line_ends (xs ++ x ∷ []) ≡ line_ends xs + cond (eqb x 10) 1 0
-ends_append [] x = add-zero (cond (eqb x 10) 1 0) ∙ sym (zero-add (cond (eqb x 10) 1 0))
-ends_append (y ∷ ys) x = ap (λ n. cond (eqb y 10) 1 0 + n) (ends_append ys x) ∙ sym (add_assoc (cond (eqb y 10) 1 0) (line_ends ys) (cond (eqb x 10) 1 0))
+abbrev pub alike : List ℕ → List ℕ → ℕ
+alike a b = prefix_len (λ p. eqb p.0 p.1) (zip a b)
 
--- one byte more
-ends_more : (a : List ℕ) (k : ℕ) → k < length a → line_ends (take (k + 1) a) ≡ line_ends (take k a) + cond (eqb (get_or a k 0) 10) 1 0
-ends_more a k h = ap line_ends (take_more a k 0 h) ∙ ends_append (take k a) (get_or a k 0)
+one_more : (t : Bool) (k n : ℕ) → k ≤ n → cond t (1 + k) 0 ≤ suc n
+one_more true k n h = omega (arith, h)
+one_more false k n h = omega arith
 
-pub ends_counted : (a : List ℕ) (k : ℕ) → k < length a → get_or a k 0 ≡ 10 → line_ends (take (k + 1) a) ≡ line_ends (take k a) + 1
-ends_counted a k h e = ends_more a k h ∙ ap (λ b. line_ends (take k a) + cond b 1 0) (eq-eqb (get_or a k 0) 10 e)
+pub alike_within : (a b : List ℕ) → alike a b ≤ length a
+alike_within [] b = omega arith
+alike_within (x ∷ a) [] = omega arith
+alike_within (x ∷ a) (y ∷ b) = one_more (eqb x y) (alike a b) (length a) (alike_within a b)
 
-pub ends_passed : (a : List ℕ) (k : ℕ) → k < length a → (get_or a k 0 ≡ 10 → ⊥) → line_ends (take (k + 1) a) ≡ line_ends (take k a)
-ends_passed a k h ne = ends_more a k h ∙ ap (λ b. line_ends (take k a) + cond b 1 0) (ne_eqb (get_or a k 0) 10 ne) ∙ add-zero (line_ends (take k a))
+ends_counted : (a : List ℕ) → count_by (λ x. eqb x 10) a ≡ line_ends a
+ends_counted [] = refl
+ends_counted (x ∷ a) = sum_by-cons (λ x. cond (eqb x 10) 1 0) x a ∙ ap (λ n. cond (eqb x 10) 1 0 + n) (ends_counted a)
 
-apart : (a b : List ℕ) (k : ℕ) → k ≤ length a → k ≤ length b
-    → (k < length a → k < length b → get_or a k 0 ≡ get_or b k 0 → ⊥) → (length a ≡ k → length b ≡ k → ⊥)
-    → Apart (drop k a) (drop k b)
-apart [] [] zero h g differ ended = ended refl refl
-apart [] (y ∷ b) zero h g differ ended = tt
-apart (x ∷ a) [] zero h g differ ended = tt
-apart (x ∷ a) (y ∷ b) zero h g differ ended = differ (omega arith) (omega arith)
-apart [] b (suc k) h g differ ended = absurd (omega (arith, h))
-apart (x ∷ a) [] (suc k) h g differ ended = absurd (omega (arith, g))
-apart (x ∷ a) (y ∷ b) (suc k) h g differ ended =
-    apart a b k (omega (arith, h)) (omega (arith, g)) (λ p q. differ (omega (arith, p)) (omega (arith, q))) (λ p q. ended (ap suc p) (ap suc q))
+-- texts that differ part after k bytes that are alike
+abbrev PartAt : (a b : List ℕ) → ℕ → Type 0
+PartAt a b k = (p : List ℕ) × (q : List ℕ) × (a ≡ take k a ++ p) × (b ≡ take k a ++ q) × Apart p q
 
-pub parted : (a b : List ℕ) (k line : ℕ) → k ≤ length a → k ≤ length b → take k a ≡ take k b → line ≡ 1 + line_ends (take k a)
-    → (k < length a → k < length b → get_or a k 0 ≡ get_or b k 0 → ⊥) → (length a ≡ k → length b ≡ k → ⊥)
-    → Compared a b (Some line)
-parted a b k line h g alike at differ ended =
-    (take k a, drop k a, drop k b, sym (take-append-drop k a), sym (take-append-drop k b) ∙ ap (λ xs. xs ++ drop k b) (sym alike), apart a b k h g differ ended, at)
+part_later : (x y : ℕ) (a b : List ℕ) (k m : ℕ) (t : Bool) → eqb x y ≡ t → m ≡ cond t (1 + k) 0 → (t && pointwise eqb a b) ≡ false
+    → (pointwise eqb a b ≡ false → PartAt a b k) → PartAt (x ∷ a) (y ∷ b) m
+part_later x y a b k m true s n e later =
+    let r = later e in
+    let n' : m ≡ suc k = omega (arith, n) in
+    rw n' (r.0, r.1, ap (λ u. x ∷ u) r.2, ap (λ u. y ∷ u) r.3 ∙ ap (λ u. u ∷ (take k a ++ r.1)) (sym (eqb-true x y s)), r.4)
+part_later x y a b k m false s n e later = rw n (x ∷ a, y ∷ b, refl, refl, eqb-false x y s)
 
-pub same : (a b : List ℕ) (k : ℕ) → length a ≡ k → length b ≡ k → take k a ≡ take k b → a ≡ b
-same a b k p q alike = sym (take_all k a (omega (arith, p))) ∙ alike ∙ take_all k b (omega (arith, q))
+parts : (a b : List ℕ) → pointwise eqb a b ≡ false → PartAt a b (alike a b)
+parts [] [] e = absurd (search (rules, e))
+parts [] (y ∷ b) e = ([], y ∷ b, refl, refl, tt)
+parts (x ∷ a) [] e = (x ∷ a, [], refl, refl, tt)
+parts (x ∷ a) (y ∷ b) e = part_later x y a b (alike a b) (alike (x ∷ a) (y ∷ b)) (eqb x y) refl refl e (parts a b)
+
+pub parted : (a b : List ℕ) → pointwise eqb a b ≡ false → Compared a b (Some (count_by (λ x. eqb x 10) (take (alike a b) a) + 1))
+parted a b e = let r = parts a b e in (take (alike a b) a, r.0, r.1, r.2, r.3, r.4, omega (arith, ends_counted (take (alike a b) a)))

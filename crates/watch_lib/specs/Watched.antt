@@ -21,7 +21,9 @@ use Rattle.monitor.specs.declared.book.Book.{Book}
 use Rattle.monitor.specs.Book.{Right}
 use Rattle.watch_lib.specs.declared.lines.Line.{Line}
 use Rattle.watch_lib.specs.declared.lines.Line.TheVariants.{Told, Refused, End}
+use Rattle.watch_lib.specs.Stops.{of_stop}
 use Rattle.watch_lib.specs.Sums.{summed}
+use Rattle.watch_lib.specs.declared.stops.Stop.{Stop}
 
 -- what a monitor over a table with its rules stands on, with a record of the capacity
 abbrev pub ground : List Formula → List Rule → (capacity : ℕ) → Ground
@@ -80,8 +82,8 @@ pub record Ready (xs : List State) (b : Book) : Type 0 where
   pub own : b.count ≡ length xs
   pub right : Right xs b
 
--- a line is taken, with the state in it and its count of bytes, or refused with a number
-abbrev pub Steps : Ground → List State → (text : List ℕ) → Result ℕ ℕ → List State → Type 0
+-- a line is taken, with the state in it and its count of bytes, or not, with the number of what is told
+abbrev pub Steps : Ground → List State → (text : List ℕ) → Result ℕ Stop → List State → Type 0
 Steps G xs text (Ok used) ys =
     (x : State) × Takes (trace_kind (length xs)) text (length xs + 1, x) used × (refusal_of G xs (Append x) ≡ None) × (ys ≡ xs ++ x ∷ [])
-Steps G xs text (Err n) ys = NotTaken G xs text n × (ys ≡ xs)
+Steps G xs text (Err stop) ys = NotTaken G xs text (of_stop stop).number × (ys ≡ xs)

@@ -12,13 +12,6 @@ use monitor::live::Monitor;
 use records::growing::Growing;
 use records::readable::Readable;
 
-const NO_TALLY: Tally = Tally {
-    raised: 0,
-    pending: 0,
-    fulfilled: 0,
-    violated: 0,
-};
-
 fn plus(a: Tally, b: Tally) -> Tally
     requires few { Few 65536 a }
     requires fewer { Few 256 b }
@@ -39,11 +32,8 @@ fn tally_of<R: Growing>(monitor: &Monitor<R>, rule: usize) -> Tally
     ensures counts { result ≡ tallied (labels_of (table_of monitor.now.book) (R.Readable.states monitor.now.log)) (slice_index_or (rules_in monitor.now.book) rule no_rule) (length (R.Readable.states monitor.now.log)) (length (R.Readable.states monitor.now.log)) }
     ensures few { Few 256 result }
 {
-    match monitor.tally(rule) {
-        Ok(tally) => tally,
-        // Never: the rule is there.
-        Err(_) => NO_TALLY,
-    }
+    // Never refused: the rule is there.
+    monitor.tally(rule).unwrap_or_default()
 }
 
 // The end line of a monitor with so many states and rules.
@@ -54,7 +44,7 @@ pub(crate) fn end_line<R: Growing>(monitor: &Monitor<R>, states: usize, rules: u
     requires short { rules ≤ 16 }
     ensures { result ≡ end_line_lem (ground_of monitor.now.book (R.Growing.room monitor.now.log)) (R.Readable.states monitor.now.log) }
 {
-    let mut tally = NO_TALLY;
+    let mut tally = Tally::default();
     for k in 0..rules {
         tally = plus(tally, tally_of(monitor, k));
     }

@@ -5,5 +5,6 @@ mod ends;
 pub mod lines;
 mod points;
 mod steps;
+mod stops;
 pub mod watch;
 pub mod written;

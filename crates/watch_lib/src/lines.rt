@@ -1,4 +1,8 @@
+ghost use Rattle.std.specs.Prelude.{◌≡◌};
+ghost use Rattle.watch_lib.specs.declared.lines.Line.TheVariants.{Refused};
+
 use expectations::types::{Notice, Tally};
+use faults::fault::Fault;
 
 // One line of output.
 #[derive(Drop, Clone, Copy)]
@@ -9,4 +13,16 @@ pub enum Line {
     Refused { number: u8, line: usize },
     // The number of states, and the sum of all rules' tallies.
     End { states: usize, tally: Tally },
+}
+
+impl Line {
+    // The line that tells a refusal, at a line of the input.
+    pub(crate) fn refused<F: Fault>(fault: F, line: usize) -> Line
+        ensures { result ≡ Refused (F.told fault).number line }
+    {
+        Line::Refused {
+            number: fault.number(),
+            line,
+        }
+    }
 }

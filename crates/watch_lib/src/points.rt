@@ -21,11 +21,8 @@ fn notice_at<R: Growing>(monitor: &Monitor<R>, point: usize, k: usize) -> Option
     requires to { point ≤ length (R.Readable.states monitor.now.log) }
     ensures { result ≡ slice_get (notices (labels_of (table_of monitor.now.book) (R.Readable.states monitor.now.log)) (rules_in monitor.now.book) point) k }
 {
-    match monitor.notice(point, k) {
-        Ok(notice) => notice,
-        // Never: the point was accepted.
-        Err(_) => None,
-    }
+    // Never refused: the point was accepted.
+    monitor.notice(point, k).unwrap_or(None)
 }
 
 // Adds a line for each notice of a point that was accepted.

@@ -6,18 +6,19 @@ ghost use Rattle.watch_lib.specs.Watched.{Ready, Steps, Traced};
 use crate::ends::end_line;
 use crate::lines::Line;
 use crate::points::tell_point;
+use crate::stops::Stop;
 use monitor::live::Monitor;
 use records::growing::Growing;
 use records::readable::Readable;
 use std::alloc::{AllocError, Global};
 use traces::states::read_state;
 
-// Appends the state of the text's first line, and answers the bytes of the line, or the number of a refusal.
+// Appends the state of the text's first line, and answers the bytes of the line, or why it is not taken.
 pub(crate) fn take_line<R: Growing>(
     monitor: &mut Monitor<R>,
     text: &[u8],
     count: usize,
-) -> Result<usize, u8>
+) -> Result<usize, Stop>
     requires ready { Ready (R.Readable.states monitor.old.log) monitor.old.book }
     requires count { count ≡ length (R.Readable.states monitor.old.log) }
     ensures steps { Steps (ground_of monitor.old.book (R.Growing.room monitor.old.log)) (R.Readable.states monitor.old.log) text.now result (R.Readable.states monitor.new.log) }
@@ -26,13 +27,9 @@ pub(crate) fn take_line<R: Growing>(
     ensures table { monitor.new.book.table ≡ monitor.old.book.table }
     ensures room { R.Growing.room monitor.new.log ≡ R.Growing.room monitor.old.log }
 {
-    match read_state(text, count) {
-        Ok(line) => match monitor.append(line.state) {
-            Ok(_) => Ok(line.used),
-            Err(refusal) => Err(refusal.number()),
-        },
-        Err(fault) => Err(fault.number()),
-    }
+    let line = read_state(text, count)?;
+    monitor.append(line.state)?;
+    Ok(line.used)
 }
 
 // The lines of a text of trace lines, the first of which has the number `place`, on a new monitor with so many rules.
@@ -61,11 +58,8 @@ pub(crate) fn follow<R: Growing>(
                 count += 1;
                 tell_point(monitor, count, &mut lines)?;
             }
-            Err(number) => {
-                lines.push(Line::Refused {
-                    number,
-                    line: place + count,
-                })?;
+            Err(stop) => {
+                lines.push(Line::refused(stop, place + count))?;
                 return Ok(lines);
             }
         }

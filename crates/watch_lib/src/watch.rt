@@ -6,6 +6,7 @@ ghost use Rattle.watch_lib.specs.Watched.{ground, Traced, Watched};
 
 use crate::lines::Line;
 use crate::steps::follow;
+use faults::fault::Fault;
 use monitor::live::Monitor;
 use records::growing::Growing;
 use records::readable::{BLANK, Readable};
@@ -60,13 +61,7 @@ fn watch_input(heap: Global, input: &[u8]) -> Result<Vec<Line>, AllocError>
             let mut rows = [BLANK; 256];
             watch_log(heap, rules, input, TableRecord::new(&mut rows))
         }
-        Err(fault) => only(
-            heap,
-            Line::Refused {
-                number: fault.number(),
-                line: fault.line(),
-            },
-        ),
+        Err(fault) => only(heap, Line::refused(fault, fault.place())),
     }
 }
 
@@ -75,13 +70,7 @@ fn watch_any(heap: Global, input: &[u8]) -> Result<Vec<Line>, AllocError>
     ensures { IfOk result (λ v. Watched input.now v.items) }
 {
     if input.len() > MOST_BYTES {
-        return only(
-            heap,
-            Line::Refused {
-                number: Refusal::MemoryTooShort.number(),
-                line: 0,
-            },
-        );
+        return only(heap, Line::refused(Refusal::MemoryTooShort, 0));
     }
     watch_input(heap, input)
 }

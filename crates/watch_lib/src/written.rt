@@ -3,7 +3,6 @@ ghost use Rattle.std.specs.Prelude.{◌≡◌, IfOk, Some, string_bytes};
 ghost use Rattle.watch_lib.specs.Lines.{line_text};
 
 use crate::lines::Line;
-use expectations::types::{Notice, Tally};
 use std::alloc::{AllocError, Global};
 use std::fmt;
 
@@ -12,24 +11,9 @@ impl fmt::Display for Line {
 
     fn fmt<W: fmt::Write>(&self, f: &mut fmt::Formatter<W>) -> fmt::Result {
         match *self {
-            Line::Told { point, notice } => {
-                let Notice { rule, from, event } = notice;
-                let word = event.word();
-                write!(f, "s={point} r={rule} from={from} is={word}")
-            }
+            Line::Told { point, notice } => write!(f, "s={point} {notice}"),
             Line::Refused { number, line } => write!(f, "refused={number} line={line}"),
-            Line::End { states, tally } => {
-                let Tally {
-                    raised,
-                    pending,
-                    fulfilled,
-                    violated,
-                } = tally;
-                write!(
-                    f,
-                    "end states={states} raised={raised} fulfilled={fulfilled} violated={violated} open={pending}"
-                )
-            }
+            Line::End { states, tally } => write!(f, "end states={states} {tally}"),
         }
     }
 }
