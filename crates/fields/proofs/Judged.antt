@@ -1,8 +1,10 @@
-use Rattle.std.proofs.Common.{◌≡◌, ℕ, ◌+◌, ◌-◌, ◌≤◌, List, ◌∷◌, length, take, drop, sym, ap, ◌∙◌, subst, arith, length-append, length-drop}
+use Rattle.std.proofs.Common.{◌≡◌, ℕ, ◌+◌, ◌-◌, ◌≤◌, List, ◌∷◌, length, take, drop, sym, ap, ◌∙◌, subst, refl, ⊎_elim, MatchResult, Result, Ok, Err, arith, length-append, length-drop}
 use Rattle.std.proofs.lemmas.List.{take_rest, drop-drop}
 use Rattle.faults.specs.declared.line.LineFault.{LineFault}
 use Rattle.faults.specs.declared.line.LineFault.TheVariants as fault
-use Rattle.fields.specs.Lines.{FirstLine}
+use Rattle.fields.specs.Lines.{FirstLine, Torn}
+use Rattle.fields.specs.declared.lines.Taken.{Taken}
+use Rattle.fields.specs.Reads.{ReadsLine}
 use Rattle.fields.specs.Kinds.{Kind, Shows, Fits, Takes, Refuses, TakesLine, RefusesLine}
 use Rattle.fields.proofs.Ends.{one_line}
 
@@ -63,6 +65,19 @@ module _ (K : Kind) (text line : List ℕ) where
         fits = record { shows = record { line = line_as (drop (length line + 1) text) v f t.shows; formed = t.formed }; ranged = t.ranged };
         within = w;
       })
+
+-- from what the lines of a kind are judged as to what a text is read as
+pub read_as : (K : Kind) {T : Type 0} (Judgement : List ℕ → Result T LineFault → Type 0) (V : T → K.Value) (text : List ℕ) (place : ℕ)
+    → ((line : List ℕ) (v : T) → Judgement line (Ok v) → TakesLine K line (V v))
+    → ((line : List ℕ) (e : LineFault) → Judgement line (Err e) → RefusesLine K line place e)
+    → (r : Result (Taken T) LineFault) → ReadsLine Judgement text place r
+    → MatchResult r (λ a. Takes K text (V a.value) a.used) (λ e. Refuses K text place e)
+read_as K Judgement V text place ok err (Ok a) (line, f, u, j) = taken K text line (V a.value) a.used f (ok line a.value j) u
+read_as K Judgement V text place ok err (Err e) d =
+    ⊎_elim
+    (λ (h : (e ≡ fault.Torn place) × Torn text). subst (Refuses K text place) (sym h.0) (refl, h.1))
+    (λ (h : (line : List ℕ) × (rest : List ℕ) × FirstLine text line rest × Judgement line (Err e)). refused K text h.0 h.1 place e h.2 (err h.0 e h.3))
+    d
 
 -- the rest of a text, as `&text[at..]` has it
 abbrev pub rest_from : (text : List ℕ) (at : ℕ) → List ℕ
