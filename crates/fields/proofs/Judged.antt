@@ -1,8 +1,10 @@
-use Rattle.std.proofs.Common.{◌≡◌, ℕ, ◌+◌, ◌-◌, ◌≤◌, List, ◌∷◌, length, take, drop, sym, ap, ◌∙◌, subst, arith, length-append, length-drop}
+use Rattle.std.proofs.Common.{◌≡◌, ℕ, ◌+◌, ◌-◌, ◌≤◌, List, ◌∷◌, length, take, drop, sym, ap, ◌∙◌, subst, refl, ⊎_elim, MatchOption, MatchResult, Option, Some, None, ok_or, Result, Ok, Err, arith, length-append, length-drop}
 use Rattle.std.proofs.lemmas.List.{take_rest, drop-drop}
 use Rattle.faults.specs.declared.line.LineFault.{LineFault}
 use Rattle.faults.specs.declared.line.LineFault.TheVariants as fault
-use Rattle.fields.specs.Lines.{FirstLine}
+use Rattle.fields.specs.Lines.{FirstLine, Torn}
+use Rattle.fields.specs.declared.lines.Taken.{Taken}
+use Rattle.fields.specs.Reads.{FirstJudged, ReadsLine}
 use Rattle.fields.specs.Kinds.{Kind, Shows, Fits, Takes, Refuses, TakesLine, RefusesLine}
 use Rattle.fields.proofs.Ends.{one_line}
 
@@ -63,6 +65,37 @@ module _ (K : Kind) (text line : List ℕ) where
         fits = record { shows = record { line = line_as (drop (length line + 1) text) v f t.shows; formed = t.formed }; ranged = t.ranged };
         within = w;
       })
+
+-- a judgement that is an option's value, or else a fault
+pub judged_by : {A E : Type 0} (N : Type 0) (P : A → Type 0) (Yes : A → Type 0) (No : E → Type 0) (o : Option A) (e : E) (r : Result A E)
+    → r ≡ ok_or o e → MatchOption o N P → ((x : A) → P x → Yes x) → (N → No e) → MatchResult r Yes No
+judged_by N P Yes No (Some x) e r h m f g = subst (λ z. MatchResult z Yes No) (sym h) (f x m)
+judged_by N P Yes No None e r h m f g = subst (λ z. MatchResult z Yes No) (sym h) (g m)
+
+-- what an option holds, where it is some value
+pub holds : {A : Type 0} (N : Type 0) (P : A → Type 0) (o : Option A) (x : A) → MatchOption o N P → o ≡ Some x → P x
+holds N P o x m e = subst (λ z. MatchOption z N P) e m
+
+-- from what the lines of a kind are judged as to what a text is read as
+pub read_as : (K : Kind) {T : Type 0} (Judgement : List ℕ → Result T LineFault → Type 0) (V : T → K.Value) (text : List ℕ) (place : ℕ) (r : Result (Taken T) LineFault)
+    → ReadsLine Judgement text place r
+    → ((line : List ℕ) (v : T) → Judgement line (Ok v) → TakesLine K line (V v))
+    → ((line : List ℕ) (e : LineFault) → Judgement line (Err e) → RefusesLine K line place e)
+    → MatchResult r (λ a. Takes K text (V a.value) a.used) (λ e. Refuses K text place e)
+read_as K Judgement V text place (Ok a) h ok err =
+    let j = h.answer.0 in taken K text j.line (V a.value) a.used j.first (ok j.line a.value j.judged) h.answer.1
+read_as K Judgement V text place (Err e) h ok err =
+    ⊎_elim
+    (λ (t : (e ≡ fault.Torn place) × Torn text). subst (Refuses K text place) (sym t.0) (refl, t.1))
+    (λ (j : FirstJudged Judgement text (Err e)). refused K text j.line _ place e j.first (err j.line e j.judged))
+    h.answer
+
+taken_of : {T : Type 0} → T → ℕ → Taken T
+taken_of v u = record { value = v; used = u }
+
+pub same_taken : {T : Type 0} (a b : Taken T) → a.value ≡ b.value → a.used ≡ b.used → a ≡ b
+unfolding taken_of
+same_taken a b e f = let p : taken_of a.value a.used ≡ taken_of b.value b.used = cc in p
 
 -- the rest of a text, as `&text[at..]` has it
 abbrev pub rest_from : (text : List ℕ) (at : ℕ) → List ℕ

@@ -1,3 +1,4 @@
+pub mod Scanned
 pub mod Numerals
 pub mod Ends
 pub mod Parted

@@ -1,18 +1,17 @@
-use Rattle.std.proofs.Common.{◌≡◌, ℕ, ◌+◌, ◌-◌, ◌^◌, ◌<◌, ◌≤◌, List, [], ◌++◌, length, get_or, take, drop, decimal, sym, refl, ap, ◌∙◌, subst, ⊎_elim, arith, length-append, length-drop, take-append-drop}
+use denote.Bor.{Bor}
+use Rattle.std.proofs.Common.{◌≡◌, ℕ, ◌+◌, ◌-◌, ◌^◌, ◌<◌, ◌≤◌, List, [], ◌++◌, length, get_or, take, drop, decimal, sym, refl, ap, ◌∙◌, subst, arith, length-append, length-drop, take-append-drop, position, ◌==◌, Some, None}
 use Rattle.std.proofs.lemmas.Str.Parse.{digit_at}
 use Rattle.std.proofs.lemmas.Fmt.{decimal_injective}
 use Rattle.std.proofs.ByRecursion.{All-from_get_or}
-use Rattle.std.proofs.lemmas.Bool.{cases_lt}
-use Rattle.std.proofs.lemmas.List.{take_rest, drop_at, drop-drop, drop_more, drop_all, append_cancel_left, get_or-take, get_or-drop, length-take-le}
-use Rattle.keys.specs.declared.CountKey.TheVariants as count
-use Rattle.keys.specs.declared.TraceKey.TheVariants as trace
-use Rattle.keys.specs.declared.FormulaKey.TheVariants as formula
-use Rattle.keys.specs.declared.RuleKey.TheVariants as rule
-use Rattle.keys.specs.declared.Key.{Key}
-use Rattle.keys.specs.declared.Key.TheVariants as key
-use Rattle.keys.specs.Keys.{key_text}
+use Rattle.std.proofs.lemmas.List.{take_rest, drop_at, drop-drop, drop_all, append_cancel_left, append-nil, length-take-le}
 use Rattle.fields.specs.Lines as lines
-use Rattle.fields.specs.Fields.{Stop, Solid, SolidFrom, Part, Digit, Took, NoNumber}
+use Rattle.words.specs.Words.{word}
+use Rattle.words.specs.declared.Operator.{Operator}
+use Rattle.fields.specs.declared.parts.Field.{Field}
+use Rattle.fields.specs.declared.parts.Field.TheVariants.{Word, Number, End}
+use Rattle.fields.specs.Fields.{Stop, Solid, Part, Digit, Under, Took, NoNumber, NoOperator}
+use Rattle.fields.proofs.Scanned.{FirstPlace, first_place, no_place}
+use Rattle.fields.proofs.Named.{solid_word, word_letter}
 use Rattle.fields.proofs.Ends.{one_parting}
 use Rattle.fields.proofs.Numerals.{Form, number_form}
 
@@ -25,46 +24,54 @@ solid_decimal n h =
 pub same_small : (m n : ℕ) → m < 10 ^ 10 → n < 10 ^ 10 → decimal m ≡ decimal n → m ≡ n
 same_small m n h k e = decimal_injective m n (omega arith) (omega arith) e
 
-pub stop_at : (line : List ℕ) (from to : ℕ) → SolidFrom line from to → Stop (drop to line)
-stop_at line from to h =
-    ⊎_elim (λ l. subst Stop (sym (drop_more line to 0 l)) (h.stop l))
-    (λ l. subst Stop (sym (drop_all to line l)) tt)
-    (cases_lt to (length line))
+module _ (line : List ℕ) (at : ℕ) (h : at ≤ length line) where
+  -- up to the first space
+  pub part_to : (n : ℕ) → position (λ b. b == 32) (drop at line) ≡ Some n → Part line at (take n (drop at line)) at
+  part_to n e =
+      let f : FirstPlace 32 (drop at line) n = first_place 32 (drop at line) n e in
+      let l : length (take n (drop at line)) ≡ n = length-take-le n (drop at line) (omega (arith, f.within)) in
+      let d : drop n (drop at line) ≡ drop (at + length (take n (drop at line))) line = drop-drop n at line ∙ ap (λ z. drop z line) (omega arith) in
+      record {
+        same = refl;
+        within = omega (arith, f.within, length-drop at line);
+        parted = sym (take-append-drop n (drop at line)) ∙ ap (λ z. take n (drop at line) ++ z) d;
+        solid = f.first;
+        stops = subst Stop d (subst Stop (sym f.here) refl);
+      }
 
-pub part_of : (line : List ℕ) (at to : ℕ) → SolidFrom line at to → Part line at (take (to - at) (drop at line)) at
-part_of line at to h =
-    let l : length (take (to - at) (drop at line)) ≡ to - at = length-take-le (to - at) (drop at line) (simp length-drop (omega (arith, h.high))) in
-    let w : at + length (take (to - at) (drop at line)) ≡ to = omega (arith, h.low) in
-    let d : drop (to - at) (drop at line) ≡ drop to line = drop-drop (to - at) at line ∙ ap (λ z. drop z line) (omega (arith, h.low)) in
-    record {
-      same = refl;
-      within = omega (arith, h.high);
-      parted = sym (take-append-drop (to - at) (drop at line)) ∙ ap (λ z. take (to - at) (drop at line) ++ z) (d ∙ ap (λ z. drop z line) (sym w));
-      solid = All-from_get_or (λ b. b ≡ 32 → ⊥) (take (to - at) (drop at line)) 0
-          (λ i k e. h.solid (at + i) (omega arith) (omega (arith, h.low))
-          (sym (get_or-drop at line i 0) ∙ sym (get_or-take (to - at) (drop at line) i 0 (omega arith)) ∙ e));
-      stops = subst (λ z. Stop (drop z line)) (sym w) (stop_at line at to h);
-    }
+  -- or up to the line's end
+  pub part_rest : position (λ b. b == 32) (drop at line) ≡ None → Part line at (drop at line) at
+  part_rest e =
+      let d : drop (at + length (drop at line)) line ≡ [] = drop_all (at + length (drop at line)) line (omega (arith, length-drop at line)) in
+      record {
+        same = refl;
+        within = omega (arith, length-drop at line);
+        parted = sym (append-nil (drop at line)) ∙ ap (λ z. drop at line ++ z) (sym d);
+        solid = no_place 32 (drop at line) e;
+        stops = subst Stop (sym d) tt;
+      }
 
-pub first_of : (line : List ℕ) (at to : ℕ) → at < to → get_or (take (to - at) (drop at line)) 0 0 ≡ get_or line at 0
-first_of line at to h = get_or-take (to - at) (drop at line) 0 0 (omega arith) ∙ get_or-drop at line 0 0 ∙ ap (λ z. get_or line z 0) (omega arith)
+-- a field after a key, and what follows it
+pub took_part : (line before key t : List ℕ) (at place : ℕ) → before ≡ key ++ drop at line → Part line at t place → Took before key t (drop (place + length t) line)
+took_part line before key t at place k p = record {
+  solid = p.solid;
+  shows = k ∙ ap (λ z. key ++ z) (p.parted ∙ ap (λ z. t ++ drop (z + length t) line) (sym p.same));
+  stops = subst (λ z. Stop (drop (z + length t) line)) (sym p.same) p.stops;
+}
 
-pub place_of : (line key u : List ℕ) (at : ℕ) → at ≤ length line → take (length line - at) (drop at line) ≡ key ++ u → (length line - length u ≤ length line) × (drop at line ≡ key ++ drop (length line - length u) line)
-place_of line key u at h e =
-    let e' : drop at line ≡ key ++ u = sym (take_rest line at) ∙ e in
-    let n : length line - at ≡ length key + length u = sym (length-drop at line) ∙ ap length e' ∙ length-append key u in
-    let d : drop (at + length key) line ≡ u = sym (drop-drop (length key) at line) ∙ ap (drop (length key)) e' ∙ drop_at key u (length key) refl in
-    let w : length line - length u ≡ at + length key = omega arith in
-    (omega arith, e' ∙ ap (λ z. key ++ z) (sym d ∙ ap (λ z. drop z line) (sym w)))
+-- a key with nothing after it
+pub took_none : (line before key : List ℕ) (at : ℕ) → before ≡ key ++ drop at line → Stop (drop at line) → Took before key [] (drop at line)
+took_none line before key at k s = record { solid = tt; shows = k; stops = s }
 
-pub no_key : (line key u : List ℕ) (at : ℕ) → ((v : List ℕ) → take (length line - at) (drop at line) ≡ key ++ v → ⊥) → drop at line ≡ key ++ u → ⊥
-no_key line key u at f e = f u (take_rest line at ∙ e)
+-- a field is read in one way only
+pub step : (before key t after t' u : List ℕ) → Took before key t after → Solid t' → Stop u → before ≡ key ++ (t' ++ u) → (t ≡ t') × (after ≡ u)
+step before key t after t' u k h y e =
+    one_parting 32 t t' after u k.solid h k.stops y (append_cancel_left key (t ++ after) (t' ++ u) (sym k.shows ∙ e))
 
--- a key with a part after it that is no number
-pub no_part : (line : List ℕ) (at from : ℕ) (key t rest : List ℕ) → drop at line ≡ key ++ drop from line → drop from line ≡ t ++ rest → Solid t → Stop rest → ((m : ℕ) → lines.Number t m → ⊥) → NoNumber line at key
-no_part line at from key t rest k c s x f n u h y e =
-    let d : t ++ rest ≡ decimal n ++ u = sym c ∙ append_cancel_left key (drop from line) (decimal n ++ u) (sym k ∙ e) in
-    f n (h, (one_parting 32 t (decimal n) rest u s (solid_decimal n h) x y d).0)
+-- a key with a text after it that is no number
+pub no_number : (before key t after : List ℕ) → Took before key t after → ((m : ℕ) → lines.Number t m → ⊥) → NoNumber before key
+no_number before key t after k f n u h y e =
+    f n (h, (step before key t after (decimal n) u k (solid_decimal n h) y e).0)
 
 pub word_no_number : (t : List ℕ) → (Digit (get_or t 0 0) → ⊥) → (m : ℕ) → lines.Number t m → ⊥
 word_no_number t f m h =
@@ -73,31 +80,42 @@ word_no_number t f m h =
 pub none_no_number : (m : ℕ) → lines.Number [] m → ⊥
 none_no_number m h = let g : Form [] = number_form [] m h in omega (arith, g.some)
 
--- a field is read in one way only
-pub step : (line : List ℕ) (at : ℕ) (key t : List ℕ) (to : ℕ) (t' u : List ℕ) → Took line at key t to → Solid t' → Stop u → drop at line ≡ key ++ (t' ++ u) → (t ≡ t') × (drop to line ≡ u)
-step line at key t to t' u k h y e =
-    one_parting 32 t t' (drop to line) u k.solid h k.stops y (append_cancel_left key (t ++ drop to line) (t' ++ u) (sym k.shows ∙ e))
+-- or no operator's word
+pub no_operator : (before key t after : List ℕ) → Took before key t after → ((o : Operator) → t ≡ word o → ⊥) → NoOperator before key
+no_operator before key t after k f o u y e = f o (step before key t after (word o) u k (solid_word o) y e).0
 
--- a key with a part after it, held against another text
-pub part_is : (line : List ℕ) (at from : ℕ) (key t rest t' u : List ℕ) → drop at line ≡ key ++ drop from line → drop from line ≡ t ++ rest → Solid t → Stop rest → Solid t' → Stop u → drop at line ≡ key ++ (t' ++ u) → t ≡ t'
-part_is line at from key t rest t' u k c s x s' y e =
-    (one_parting 32 t t' rest u s s' x y (sym c ∙ append_cancel_left key (drop from line) (t' ++ u) (sym k ∙ e))).0
+pub number_no_word : (t : List ℕ) → Digit (get_or t 0 0) → (o : Operator) → t ≡ word o → ⊥
+number_no_word t d o e = omega (arith, d, word_letter o, ap (λ z. get_or z 0 0) e)
 
--- no key is empty
-pub key_some : (k : Key) (u : List ℕ) → key_text k ++ u ≡ [] → ⊥
-key_some (key.Count count.Formulas) u e = omega (arith, ap length e)
-key_some (key.Count count.Rules) u e = omega (arith, ap length e)
-key_some (key.Trace trace.State) u e = omega (arith, ap length e)
-key_some (key.Trace trace.Signals) u e = omega (arith, ap length e)
-key_some (key.Trace trace.Mark) u e = omega (arith, ap length e)
-key_some (key.Trace trace.FirstKind) u e = omega (arith, ap length e)
-key_some (key.Trace trace.FirstTarget) u e = omega (arith, ap length e)
-key_some (key.Trace trace.SecondKind) u e = omega (arith, ap length e)
-key_some (key.Trace trace.SecondTarget) u e = omega (arith, ap length e)
-key_some (key.Formula formula.Number) u e = omega (arith, ap length e)
-key_some (key.Formula formula.Operator) u e = omega (arith, ap length e)
-key_some (key.Formula formula.First) u e = omega (arith, ap length e)
-key_some (key.Formula formula.Second) u e = omega (arith, ap length e)
-key_some (key.Rule rule.Number) u e = omega (arith, ap length e)
-key_some (key.Rule rule.When) u e = omega (arith, ap length e)
-key_some (key.Rule rule.Expect) u e = omega (arith, ap length e)
+pub none_no_word : (o : Operator) → [] ≡ word o → ⊥
+none_no_word o e = omega (arith, word_letter o, ap (λ z. get_or z 0 0) e)
+
+-- what stands under a key, where it is no number
+pub not_number : (line before key : List ℕ) (f : Field) → Under line before key f → ((t : Bor (List ℕ)) (p : ℕ) → f ≡ Number t p → ⊥) → NoNumber before key
+not_number line before key (Word t p) u n = no_number before key t.now _ (took_part line before key t.now u.at p u.keyed u.stands.0) (word_no_number t.now u.stands.1)
+not_number line before key (Number t p) u n = absurd (n t p refl)
+not_number line before key End u n = no_number before key [] _ (took_none line before key u.at u.keyed u.stands) none_no_number
+
+pub not_decimal : (line before key : List ℕ) (f : Field) → Under line before key f → (t : Bor (List ℕ)) (p : ℕ) → f ≡ Number t p → ((m : ℕ) → lines.Number t.now m → ⊥) → NoNumber before key
+not_decimal line before key f u t p e n =
+    let v : Under line before key (Number t p) = subst (Under line before key) e u in
+    no_number before key t.now _ (took_part line before key t.now v.at p v.keyed v.stands.0) n
+
+-- and where it is no operator's word
+pub not_word : (line before key : List ℕ) (f : Field) → Under line before key f → ((t : Bor (List ℕ)) (p : ℕ) → f ≡ Word t p → ⊥) → NoOperator before key
+not_word line before key (Word t p) u n = absurd (n t p refl)
+not_word line before key (Number t p) u n = no_operator before key t.now _ (took_part line before key t.now u.at p u.keyed u.stands.0) (number_no_word t.now u.stands.1)
+not_word line before key End u n = no_operator before key [] _ (took_none line before key u.at u.keyed u.stands) none_no_word
+
+pub not_named : (line before key : List ℕ) (f : Field) → Under line before key f → (t : Bor (List ℕ)) (p : ℕ) → f ≡ Word t p → ((o : Operator) → t.now ≡ word o → ⊥) → NoOperator before key
+not_named line before key f u t p e n =
+    let v : Under line before key (Word t p) = subst (Under line before key) e u in
+    no_operator before key t.now _ (took_part line before key t.now v.at p v.keyed v.stands.0) n
+
+-- a key that comes next in what a line has from a place on, and the place after it
+pub keyed_after : (line key u : List ℕ) (at : ℕ) → at ≤ length line → take (length line - at) (drop at line) ≡ key ++ u → drop at line ≡ key ++ drop (length line - length u) line
+keyed_after line key u at h e' =
+    let e : drop at line ≡ key ++ u = sym (take_rest line at) ∙ e' in
+    let n : length line - at ≡ length key + length u = sym (length-drop at line) ∙ ap length e ∙ length-append key u in
+    let d : drop (at + length key) line ≡ u = sym (drop-drop (length key) at line) ∙ ap (drop (length key)) e ∙ drop_at key u (length key) refl in
+    e ∙ ap (λ z. key ++ z) (sym d ∙ ap (λ z. drop z line) (omega (arith, n, h)))

@@ -1,6 +1,6 @@
-use Rattle.std.proofs.Common.{◌≡◌, ℕ, ◌-◌, ◌<◌, ◌≤◌, List, [], ◌∷◌, ◌++◌, length, drop, decimal, sym, refl, ap, ◌∙◌, arith, length-drop}
+use Rattle.std.proofs.Common.{◌≡◌, ℕ, List, [], ◌∷◌, ◌++◌, length, decimal, refl, ap, ◌∙◌, arith}
 use Rattle.std.specs.List.{AllByRecursion as All}
-use Rattle.std.proofs.lemmas.List.{drop_all, append_cancel_left}
+use Rattle.std.proofs.lemmas.List.{append_cancel_left}
 use Rattle.words.specs.Words.{word}
 use Rattle.words.specs.declared.Operator.{Operator}
 use Rattle.fields.specs.Lines.{Small}
@@ -37,25 +37,25 @@ led [] l = tt
 led (k ∷ ks) l = l.1
 
 -- the fields read one after another, to the line's end
-pub data Whole (line : List ℕ) : ℕ → List (List ℕ) → List (List ℕ) → Type 0 where
-  done : {at : ℕ} → length line ≤ at → Whole line at [] []
-  next : {at a : ℕ} {k t : List ℕ} {ks ts : List (List ℕ)} → Took line at k t a → Whole line a ks ts → Whole line at (k ∷ ks) (t ∷ ts)
+pub data Whole : List ℕ → List (List ℕ) → List (List ℕ) → Type 0 where
+  done : {before : List ℕ} → before ≡ [] → Whole before [] []
+  next : {before after k t : List ℕ} {ks ts : List (List ℕ)} → Took before k t after → Whole after ks ts → Whole before (k ∷ ks) (t ∷ ts)
 
-pub whole : {line : List ℕ} {at : ℕ} {ks ts : List (List ℕ)} → Whole line at ks ts → drop at line ≡ shown ks ts
-whole {line} {at} (done h) = drop_all at line h
+pub whole : {before : List ℕ} {ks ts : List (List ℕ)} → Whole before ks ts → before ≡ shown ks ts
+whole (done h) = h
 whole (next {k = k} {t = t} h w) = h.shows ∙ ap (λ z. k ++ (t ++ z)) (whole w)
 
 -- the fields read up to one that does not stand there, so that the line is no showing of these texts
-pub data Broken (line : List ℕ) : ℕ → List (List ℕ) → List (List ℕ) → Type 0 where
-  over : {at : ℕ} → at < length line → Broken line at [] []
-  here : {at : ℕ} {k t : List ℕ} {ks ts : List (List ℕ)} → (Stop (shown ks ts) → drop at line ≡ k ++ (t ++ shown ks ts) → ⊥) → Broken line at (k ∷ ks) (t ∷ ts)
-  later : {at a : ℕ} {k t t' : List ℕ} {ks ts : List (List ℕ)} → Took line at k t' a → Broken line a ks ts → Broken line at (k ∷ ks) (t ∷ ts)
+pub data Broken : List ℕ → List (List ℕ) → List (List ℕ) → Type 0 where
+  over : {before : List ℕ} → (before ≡ [] → ⊥) → Broken before [] []
+  here : {before k t : List ℕ} {ks ts : List (List ℕ)} → (Stop (shown ks ts) → before ≡ k ++ (t ++ shown ks ts) → ⊥) → Broken before (k ∷ ks) (t ∷ ts)
+  later : {before after k t t' : List ℕ} {ks ts : List (List ℕ)} → Took before k t' after → Broken after ks ts → Broken before (k ∷ ks) (t ∷ ts)
 
-pub broken : {line : List ℕ} {at : ℕ} {ks ts : List (List ℕ)} → Broken line at ks ts → Led ks → All Solid ts → drop at line ≡ shown ks ts → ⊥
-broken {line} {at} (over h) l s e = let n : length line - at ≡ 0 = sym (length-drop at line) ∙ ap length e in omega arith
+pub broken : {before : List ℕ} {ks ts : List (List ℕ)} → Broken before ks ts → Led ks → All Solid ts → before ≡ shown ks ts → ⊥
+broken (over h) l s e = h e
 broken (here {ks = ks} {ts = ts} f) l s e = f (stop_shown ks ts l) e
-broken {line} {at} (later {a = a} {k = k} {t = t} {t' = t'} {ks = ks} {ts = ts} h b) l s e =
-    broken b (led ks l) s.1 (step line at k t' a t (shown ks ts) h s.0 (stop_shown ks ts l) e).1
+broken {before} (later {after = a} {k = k} {t = t} {t' = t'} {ks = ks} {ts = ts} h b) l s e =
+    broken b (led ks l) s.1 (step before k t' a t (shown ks ts) h s.0 (stop_shown ks ts l) e).1
 
 -- a line shows one list of texts only
 pub shown_unique : (ks ts us : List (List ℕ)) → length ts ≡ length ks → length us ≡ length ks → Led ks → All Solid ts → All Solid us → shown ks ts ≡ shown ks us → ts ≡ us
@@ -69,8 +69,8 @@ shown_unique (k ∷ ks) (t ∷ ts) (u ∷ us) m n l p q e =
     let i = shown_unique ks ts us (omega arith) (omega arith) (led ks l) p.1 q.1 d.1 in
     cc (d.0, i)
 
-pub missing : {line : List ℕ} {at n : ℕ} {k : List ℕ} {ks ts : List (List ℕ)} → NoNumber line at k → Small n → Broken line at (k ∷ ks) (decimal n ∷ ts)
+pub missing : {before k : List ℕ} {n : ℕ} {ks ts : List (List ℕ)} → NoNumber before k → Small n → Broken before (k ∷ ks) (decimal n ∷ ts)
 missing {n = n} {ks = ks} {ts = ts} x h = here (λ s. x n (shown ks ts) h s)
 
-pub missing_word : {line : List ℕ} {at : ℕ} {k : List ℕ} {ks ts : List (List ℕ)} → NoOperator line at k → (o : Operator) → Broken line at (k ∷ ks) (word o ∷ ts)
+pub missing_word : {before k : List ℕ} {ks ts : List (List ℕ)} → NoOperator before k → (o : Operator) → Broken before (k ∷ ks) (word o ∷ ts)
 missing_word {ks = ks} {ts = ts} x o = here (λ s. x o (shown ks ts) s)

@@ -1,5 +1,5 @@
 -- What stands in a line, place by place: keys, and under each a text without spaces.
-use Rattle.std.specs.Prelude.{◌≡◌, ℕ, ◌+◌, ◌<◌, ◌≤◌, List, [], ◌∷◌, ◌++◌, length, drop, decimal, ◌≢◌, slice_index}
+use Rattle.std.specs.Prelude.{◌≡◌, ℕ, ◌+◌, ◌≤◌, List, [], ◌∷◌, ◌++◌, length, drop, decimal, ◌≢◌, slice_index}
 use Rattle.words.specs.Words.{word}
 use Rattle.words.specs.declared.Operator.{Operator}
 use Rattle.fields.specs.Lines.{Small, Free}
@@ -18,12 +18,6 @@ Solid t = Free 32 t
 abbrev pub Stop : List ℕ → Type 0
 Stop t = Ends 32 t
 
-pub record SolidFrom (line : List ℕ) (from to : ℕ) : Type 0 where
-  pub low : from ≤ to
-  pub high : to ≤ length line
-  pub solid : (k : ℕ) → from ≤ k → k < to → slice_index line k ≢ 32
-  pub stop : to < length line → slice_index line to ≡ 32
-
 -- a field that begins at a place
 pub record Part (line : List ℕ) (at : ℕ) (t : List ℕ) (place : ℕ) : Type 0 where
   pub same : place ≡ at
@@ -40,22 +34,32 @@ Stands line at (Word t place) = Part line at t.now place × (Digit (slice_index 
 Stands line at (Number t place) = Part line at t.now place × Digit (slice_index t.now 0)
 Stands line at End = Stop (drop at line)
 
--- a key and a text without spaces stand at a place, and end before another
-pub record Took (line : List ℕ) (at : ℕ) (key t : List ℕ) (to : ℕ) : Type 0 where
-  pub within : to ≤ length line
-  pub solid : Solid t
-  pub shows : drop at line ≡ key ++ (t ++ drop to line)
-  pub stops : Stop (drop to line)
+-- no key comes next
+abbrev pub NoKey : (before key : List ℕ) → Type 0
+NoKey before key = (u : List ℕ) → before ≢ key ++ u
 
--- a key and a number
-pub record TookNumber (line : List ℕ) (at : ℕ) (key : List ℕ) (n to : ℕ) : Type 0 where
-  pub took : Took line at key (decimal n) to
+-- a key comes next, and a field of the line stands after it
+pub record Under (line before key : List ℕ) (f : Field) : Type 0 where
+  pub at : ℕ
+  pub within : at ≤ length line
+  pub keyed : before ≡ key ++ drop at line
+  pub stands : Stands line at f
+
+-- a key and a text without spaces come next, and then what follows
+pub record Took (before key t after : List ℕ) : Type 0 where
+  pub solid : Solid t
+  pub shows : before ≡ key ++ (t ++ after)
+  pub stops : Stop after
+
+-- a key and a number come next
+pub record TookNumber (before key : List ℕ) (n : ℕ) (after : List ℕ) : Type 0 where
+  pub took : Took before key (decimal n) after
   pub small : Small n
 
--- no key with a number stands at a place
-abbrev pub NoNumber : List ℕ → ℕ → List ℕ → Type 0
-NoNumber line at key = (n : ℕ) (u : List ℕ) → Small n → Stop u → drop at line ≢ key ++ (decimal n ++ u)
+-- no key with a number comes next
+abbrev pub NoNumber : (before key : List ℕ) → Type 0
+NoNumber before key = (n : ℕ) (u : List ℕ) → Small n → Stop u → before ≢ key ++ (decimal n ++ u)
 
--- no key with an operator's word stands at a place
-abbrev pub NoOperator : List ℕ → ℕ → List ℕ → Type 0
-NoOperator line at key = (o : Operator) (u : List ℕ) → Stop u → drop at line ≢ key ++ (word o ++ u)
+-- no key with an operator's word comes next
+abbrev pub NoOperator : (before key : List ℕ) → Type 0
+NoOperator before key = (o : Operator) (u : List ℕ) → Stop u → before ≢ key ++ (word o ++ u)

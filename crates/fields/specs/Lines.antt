@@ -1,5 +1,5 @@
 -- Lines and numbers, as a text has them.
-use Rattle.std.specs.Prelude.{◌≡◌, ℕ, ◌^◌, ◌<◌, ◌≤◌, List, ◌∷◌, ◌++◌, length, decimal, ◌≢◌, slice_index, slice_index_or}
+use Rattle.std.specs.Prelude.{◌≡◌, ℕ, ◌^◌, ◌<◌, ◌≤◌, List, ◌∷◌, ◌++◌, length, decimal, ◌≢◌}
 use Rattle.std.specs.List.{AllByRecursion}
 
 -- a text in which byte c does not occur
@@ -36,10 +36,3 @@ pub record FirstLine (text line rest : List ℕ) : Type 0 where
 -- no line end stands where it must
 abbrev pub Torn : List ℕ → Type 0
 Torn text = (line rest : List ℕ) → FirstLine text line rest → ⊥
-
--- the place of the byte that ends the first line
-pub record LineEnd (text : List ℕ) (n : ℕ) : Type 0 where
-  pub within : n < length text
-  pub short : n ≤ line_limit
-  pub here : slice_index_or text n 0 ≡ 10
-  pub first : (k : ℕ) → k < n → slice_index text k ≢ 10

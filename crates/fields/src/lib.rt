@@ -4,4 +4,5 @@
 pub mod lines;
 pub mod numbers;
 pub mod parts;
+pub mod places;
 pub mod values;

@@ -1,59 +1,68 @@
+ghost use Rattle.std.specs.Prelude.{◌≡◌, ◌↔◌, ◌≤◌, [], length, IsTrue, IfNone};
 ghost use Rattle.std.specs.Option.{MatchOption};
-ghost use Rattle.keys.specs.Keys.{key_text};
 ghost use Rattle.words.specs.Words.{word as word_of};
-ghost use Rattle.fields.specs.Fields.{TookNumber, NoNumber, Took, NoOperator};
+ghost use Rattle.fields.specs.Fields.{NoKey, Under, NoNumber, TookNumber, NoOperator, Took};
 
 use crate::numbers::number;
-use crate::parts::{Field, after_key, field_at};
-use keys::Key;
+use crate::parts::{Field, field_at};
+use keys::LineKey;
 use words::Operator;
 
-// A number that was read, and the place after it.
+// The fields of a line that are not read yet: those from a place on.
 #[derive(Drop, Clone, Copy)]
-pub struct ReadNumber {
-    pub number: u64,
-    pub to: usize,
+pub struct Fields<'a> {
+    line: &'a [u8],
+    at: usize,
+    ghost within: { at ≤ length line.now },
 }
 
-// An operator that was read, and the place after it.
-#[derive(Drop, Clone, Copy)]
-pub struct ReadOperator {
-    pub operator: Operator,
-    pub to: usize,
-}
+impl<'a> Fields<'a> {
+    ghost use Rattle.fields.specs.Rest.{rest_of};
 
-// The number under a key that stands at a place.
-pub fn number_under(line: &[u8], at: usize, key: Key) -> Option<ReadNumber>
-    ensures { MatchOption result (NoNumber line.now at (key_text key)) (λ g. TookNumber line.now at (key_text key) g.number g.to) }
-{
-    let from = after_key(line, at, key)?;
-    match field_at(line, from) {
-        Field::Number(text, place) => match number(text) {
-            Some(number) => Some(ReadNumber {
-                number,
-                to: place + text.len(),
-            }),
-            None => None,
-        },
-        Field::Word(_, _) => None,
-        Field::End => None,
+    // All fields of a line.
+    pub fn of(line: &'a [u8]) -> Fields<'a>
+        ensures { rest_of result ≡ line.now }
+    {
+        Fields { line, at: 0 }
     }
-}
 
-// The operator whose word stands under a key at a place.
-pub fn operator_under(line: &[u8], at: usize, key: Key) -> Option<ReadOperator>
-    ensures { MatchOption result (NoOperator line.now at (key_text key)) (λ g. Took line.now at (key_text key) (word_of g.operator) g.to) }
-{
-    let from = after_key(line, at, key)?;
-    match field_at(line, from) {
-        Field::Word(text, place) => match words::named(text) {
-            Some(operator) => Some(ReadOperator {
-                operator,
-                to: place + text.len(),
-            }),
-            None => None,
-        },
-        Field::Number(_, _) => None,
-        Field::End => None,
+    pub fn is_at_end(&self) -> bool
+        ensures { IsTrue result ↔ (rest_of self.now ≡ []) }
+    {
+        self.at == self.line.len()
+    }
+
+    // What stands under a key that comes next.
+    fn under<K: LineKey>(&self, key: K) -> Option<Field<'a>>
+        ensures { MatchOption result (NoKey (rest_of self.now) (K.written key)) (λ f. Under self.now.line.now (rest_of self.now) (K.written key) f) }
+    {
+        let rest = key.after(&self.line[self.at..])?;
+        Some(field_at(self.line, self.line.len() - rest.len()))
+    }
+
+    // Reads the number under a key that comes next.
+    pub fn number<K: LineKey>(&mut self, key: K) -> Option<u64>
+        ensures read { MatchOption result (NoNumber (rest_of self.old) (K.written key)) (λ n. TookNumber (rest_of self.old) (K.written key) n (rest_of self.new)) }
+        ensures unread { IfNone result (rest_of self.new ≡ rest_of self.old) }
+    {
+        let Field::Number(text, place) = self.under(key)? else {
+            return None;
+        };
+        let value = number(text)?;
+        self.at = place + text.len();
+        Some(value)
+    }
+
+    // Reads the operator whose word stands under a key that comes next.
+    pub fn operator<K: LineKey>(&mut self, key: K) -> Option<Operator>
+        ensures read { MatchOption result (NoOperator (rest_of self.old) (K.written key)) (λ o. Took (rest_of self.old) (K.written key) (word_of o) (rest_of self.new)) }
+        ensures unread { IfNone result (rest_of self.new ≡ rest_of self.old) }
+    {
+        let Field::Word(text, place) = self.under(key)? else {
+            return None;
+        };
+        let operator = words::named(text)?;
+        self.at = place + text.len();
+        Some(operator)
     }
 }

@@ -8,8 +8,6 @@ use Rattle.keys.specs.declared.FormulaKey.{FormulaKey}
 use Rattle.keys.specs.declared.FormulaKey.TheVariants as formula
 use Rattle.keys.specs.declared.RuleKey.{RuleKey}
 use Rattle.keys.specs.declared.RuleKey.TheVariants as rule
-use Rattle.keys.specs.declared.Key.{Key}
-use Rattle.keys.specs.declared.Key.TheVariants.{Count, Trace, Formula, Rule}
 
 abbrev pub count_text : CountKey → List ℕ
 count_text count.Formulas = codes "formulas="
@@ -34,9 +32,3 @@ abbrev pub rule_text : RuleKey → List ℕ
 rule_text rule.Number = codes "r="
 rule_text rule.When = codes " when="
 rule_text rule.Expect = codes " expect="
-
-abbrev pub key_text : Key → List ℕ
-key_text (Count key) = count_text key
-key_text (Trace key) = trace_text key
-key_text (Formula key) = formula_text key
-key_text (Rule key) = rule_text key

@@ -2,7 +2,7 @@
 #![tactic(auto)]
 
 ghost use Rattle.std.specs.Prelude.{◌≡◌, ℕ, List, ◌++◌, MatchOption, ◌≢◌};
-ghost use Rattle.keys.specs.Keys.{count_text, trace_text, formula_text, rule_text, key_text};
+ghost use Rattle.keys.specs.Keys.{count_text, trace_text, formula_text, rule_text};
 
 const SPACE: u8 = b' ';
 
@@ -48,15 +48,25 @@ const W: u8 = b'w';
 
 const X: u8 = b'x';
 
+// A key of a line.
+pub trait LineKey: Sized {
+    // the key as it is written
+    ghost written: { Self → List ℕ };
+
+    // What follows the key in a text that begins with it.
+    fn after(self, text: &[u8]) -> Option<&[u8]>
+        ensures { MatchOption result ((rest : List ℕ) → text.now ≢ written self ++ rest) (λ rest. text.now ≡ written self ++ rest.now) };
+}
+
 // The keys of the lines that count formulas and rules.
-#[derive(Drop, Clone, Copy)]
+#[derive(Drop, Clone, Copy, PartialEq, Eq, Debug)]
 pub enum CountKey {
     Formulas,
     Rules,
 }
 
 // The keys of a trace line.
-#[derive(Drop, Clone, Copy)]
+#[derive(Drop, Clone, Copy, PartialEq, Eq, Debug)]
 pub enum TraceKey {
     State,
     Signals,
@@ -68,7 +78,7 @@ pub enum TraceKey {
 }
 
 // The keys of a formula line.
-#[derive(Drop, Clone, Copy)]
+#[derive(Drop, Clone, Copy, PartialEq, Eq, Debug)]
 pub enum FormulaKey {
     Number,
     Operator,
@@ -77,77 +87,65 @@ pub enum FormulaKey {
 }
 
 // The keys of a rule line.
-#[derive(Drop, Clone, Copy)]
+#[derive(Drop, Clone, Copy, PartialEq, Eq, Debug)]
 pub enum RuleKey {
     Number,
     When,
     Expect,
 }
 
-#[derive(Drop, Clone, Copy)]
-pub enum Key {
-    Count(CountKey),
-    Trace(TraceKey),
-    Formula(FormulaKey),
-    Rule(RuleKey),
-}
+impl LineKey for CountKey {
+    ghost written = { count_text };
 
-fn after_count_key(text: &[u8], key: CountKey) -> Option<&[u8]>
-    ensures { MatchOption result ((rest : List ℕ) → text.now ≢ count_text key ++ rest) (λ rest. text.now ≡ count_text key ++ rest.now) }
-{
-    match (key, text) {
-        (CountKey::Formulas, [F, O, R, M, U, L, A, S, EQUALS, rest @ ..]) => Some(rest),
-        (CountKey::Rules, [R, U, L, E, S, EQUALS, rest @ ..]) => Some(rest),
-        _ => None,
+    fn after(self, text: &[u8]) -> Option<&[u8]> {
+        match (self, text) {
+            (CountKey::Formulas, [F, O, R, M, U, L, A, S, EQUALS, rest @ ..]) => Some(rest),
+            (CountKey::Rules, [R, U, L, E, S, EQUALS, rest @ ..]) => Some(rest),
+            _ => None,
+        }
     }
 }
 
-fn after_trace_key(text: &[u8], key: TraceKey) -> Option<&[u8]>
-    ensures { MatchOption result ((rest : List ℕ) → text.now ≢ trace_text key ++ rest) (λ rest. text.now ≡ trace_text key ++ rest.now) }
-{
-    match (key, text) {
-        (TraceKey::State, [S, EQUALS, rest @ ..]) => Some(rest),
-        (TraceKey::Signals, [SPACE, S, I, G, N, A, L, S, EQUALS, rest @ ..]) => Some(rest),
-        (TraceKey::Mark, [SPACE, M, A, R, K, EQUALS, rest @ ..]) => Some(rest),
-        (TraceKey::FirstKind, [SPACE, K, A, EQUALS, rest @ ..]) => Some(rest),
-        (TraceKey::FirstTarget, [SPACE, T, A, EQUALS, rest @ ..]) => Some(rest),
-        (TraceKey::SecondKind, [SPACE, K, B, EQUALS, rest @ ..]) => Some(rest),
-        (TraceKey::SecondTarget, [SPACE, T, B, EQUALS, rest @ ..]) => Some(rest),
-        _ => None,
+impl LineKey for TraceKey {
+    ghost written = { trace_text };
+
+    fn after(self, text: &[u8]) -> Option<&[u8]> {
+        match (self, text) {
+            (TraceKey::State, [S, EQUALS, rest @ ..]) => Some(rest),
+            (TraceKey::Signals, [SPACE, S, I, G, N, A, L, S, EQUALS, rest @ ..]) => Some(rest),
+            (TraceKey::Mark, [SPACE, M, A, R, K, EQUALS, rest @ ..]) => Some(rest),
+            (TraceKey::FirstKind, [SPACE, K, A, EQUALS, rest @ ..]) => Some(rest),
+            (TraceKey::FirstTarget, [SPACE, T, A, EQUALS, rest @ ..]) => Some(rest),
+            (TraceKey::SecondKind, [SPACE, K, B, EQUALS, rest @ ..]) => Some(rest),
+            (TraceKey::SecondTarget, [SPACE, T, B, EQUALS, rest @ ..]) => Some(rest),
+            _ => None,
+        }
     }
 }
 
-fn after_formula_key(text: &[u8], key: FormulaKey) -> Option<&[u8]>
-    ensures { MatchOption result ((rest : List ℕ) → text.now ≢ formula_text key ++ rest) (λ rest. text.now ≡ formula_text key ++ rest.now) }
-{
-    match (key, text) {
-        (FormulaKey::Number, [F, EQUALS, rest @ ..]) => Some(rest),
-        (FormulaKey::Operator, [SPACE, O, P, EQUALS, rest @ ..]) => Some(rest),
-        (FormulaKey::First, [SPACE, A, EQUALS, rest @ ..]) => Some(rest),
-        (FormulaKey::Second, [SPACE, B, EQUALS, rest @ ..]) => Some(rest),
-        _ => None,
+impl LineKey for FormulaKey {
+    ghost written = { formula_text };
+
+    fn after(self, text: &[u8]) -> Option<&[u8]> {
+        match (self, text) {
+            (FormulaKey::Number, [F, EQUALS, rest @ ..]) => Some(rest),
+            (FormulaKey::Operator, [SPACE, O, P, EQUALS, rest @ ..]) => Some(rest),
+            (FormulaKey::First, [SPACE, A, EQUALS, rest @ ..]) => Some(rest),
+            (FormulaKey::Second, [SPACE, B, EQUALS, rest @ ..]) => Some(rest),
+            _ => None,
+        }
     }
 }
 
-fn after_rule_key(text: &[u8], key: RuleKey) -> Option<&[u8]>
-    ensures { MatchOption result ((rest : List ℕ) → text.now ≢ rule_text key ++ rest) (λ rest. text.now ≡ rule_text key ++ rest.now) }
-{
-    match (key, text) {
-        (RuleKey::Number, [R, EQUALS, rest @ ..]) => Some(rest),
-        (RuleKey::When, [SPACE, W, H, E, N, EQUALS, rest @ ..]) => Some(rest),
-        (RuleKey::Expect, [SPACE, E, X, P, E, C, T, EQUALS, rest @ ..]) => Some(rest),
-        _ => None,
-    }
-}
+impl LineKey for RuleKey {
+    ghost written = { rule_text };
 
-// What follows a key that the text begins with.
-pub fn after(text: &[u8], key: Key) -> Option<&[u8]>
-    ensures { MatchOption result ((rest : List ℕ) → text.now ≢ key_text key ++ rest) (λ rest. text.now ≡ key_text key ++ rest.now) }
-{
-    match key {
-        Key::Count(key) => after_count_key(text, key),
-        Key::Trace(key) => after_trace_key(text, key),
-        Key::Formula(key) => after_formula_key(text, key),
-        Key::Rule(key) => after_rule_key(text, key),
+    fn after(self, text: &[u8]) -> Option<&[u8]> {
+        match (self, text) {
+            (RuleKey::Number, [R, EQUALS, rest @ ..]) => Some(rest),
+            (RuleKey::When, [SPACE, W, H, E, N, EQUALS, rest @ ..]) => Some(rest),
+            (RuleKey::Expect, [SPACE, E, X, P, E, C, T, EQUALS, rest @ ..]) => Some(rest),
+            _ => None,
+        }
     }
 }

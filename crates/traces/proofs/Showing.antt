@@ -1,4 +1,4 @@
-use Rattle.std.proofs.Common.{◌≡◌, ℕ, List, [], ◌∷◌, codes, decimal, refl}
+use Rattle.std.proofs.Common.{◌≡◌, ℕ, List, [], ◌∷◌, codes, decimal, refl, ◌∙◌}
 use Rattle.std.specs.List.{AllByRecursion as All}
 use Rattle.logic.specs.declared.types.Reference.{Reference}
 use Rattle.logic.specs.declared.types.State.{State}
@@ -35,8 +35,8 @@ solids i q f = (
 )
 
 -- a line that breaks off, whatever numbers it is held against, is no trace line
-pub breaks : (line : List ℕ) → ((i : ℕ) (q : State) → Formed i q → Broken line 0 keys (texts i q)) → ShowsNone (trace_kind 0) line
-breaks line b v f e = broken (b v.0 v.1 f) keys_led (solids v.0 v.1 f) e
+pub breaks : (before line : List ℕ) → before ≡ line → ((i : ℕ) (q : State) → Formed i q → Broken before keys (texts i q)) → ShowsNone (trace_kind 0) line
+breaks before line same b v f e = broken (b v.0 v.1 f) keys_led (solids v.0 v.1 f) (same ∙ e)
 
 reference : ℕ → ℕ → Reference
 reference k t = record { kind = k; target = t }

@@ -3,7 +3,6 @@ use Rattle.logic.specs.declared.types.State.{State}
 use Rattle.faults.specs.declared.line.LineFault.{LineFault}
 use Rattle.fields.specs.Kinds.{Fits, Refuses}
 use Rattle.fields.proofs.Judged as judged
-use Rattle.traces.specs.declared.states.StateLine.{StateLine}
 use Rattle.traces.specs.Traces.{trace_kind, OneReading}
 use Rattle.traces.proofs.Showing.{one_shown}
 
@@ -28,17 +27,10 @@ module _ (count : ℕ) where
   pub one_refusal : (text : List ℕ) (e f : LineFault) → Refuses (trace_kind count) text 1 e → Refuses (trace_kind count) text 1 f → e ≡ f
   one_refusal text e f x y = judged.one_refusal (trace_kind count) (single count) text 1 e f x y
 
-state_line : State → ℕ → StateLine
-state_line q u = record { state = q; used = u }
-
-same_line : (a b : StateLine) → a.state ≡ b.state → a.used ≡ b.used → a ≡ b
-unfolding state_line
-same_line a b e f = let p : state_line a.state a.used ≡ state_line b.state b.used = cc in p
-
 pub one_reading_lem : OneReading
 one_reading_lem text count (Ok a) (Ok b) p q =
-    let d = judged.one_taking (trace_kind count) (single count) text (count + 1, a.state) (count + 1, b.state) a.used b.used p q in
-    ap Ok (same_line a b (ap (λ z. z.1) d.0) d.1)
-one_reading_lem text count (Ok a) (Err e) p x = absurd (fit_or_refused count a.state text (drop a.used text) e p.fits x)
-one_reading_lem text count (Err e) (Ok b) x q = absurd (fit_or_refused count b.state text (drop b.used text) e q.fits x)
+    let d = judged.one_taking (trace_kind count) (single count) text (count + 1, a.value) (count + 1, b.value) a.used b.used p q in
+    ap Ok (judged.same_taken a b (ap (λ z. z.1) d.0) d.1)
+one_reading_lem text count (Ok a) (Err e) p x = absurd (fit_or_refused count a.value text (drop a.used text) e p.fits x)
+one_reading_lem text count (Err e) (Ok b) x q = absurd (fit_or_refused count b.value text (drop b.used text) e q.fits x)
 one_reading_lem text count (Err e) (Err f) x y = ap Err (one_refusal count text e f x y)

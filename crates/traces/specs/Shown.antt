@@ -1,5 +1,5 @@
 -- What the parts of the reader answer about one line.
-use Rattle.std.specs.Prelude.{ℕ, ◌+◌, List, Ok, Err, Result}
+use Rattle.std.specs.Prelude.{ℕ, ◌+◌, List, Result, MatchResult}
 use Rattle.logic.specs.declared.types.State.{State}
 use Rattle.faults.specs.declared.line.LineFault.{LineFault}
 use Rattle.traces.specs.declared.numbers.Numbers.{Numbers}
@@ -16,5 +16,5 @@ state_of v = record {
 }
 
 abbrev pub Judged : (line : List ℕ) → (count : ℕ) → Result State LineFault → Type 0
-Judged line count (Ok q) = TakesLine (trace_kind count) line (count + 1, q)
-Judged line count (Err e) = RefusesLine (trace_kind count) line 1 e
+Judged line count r =
+    MatchResult r (λ q. TakesLine (trace_kind count) line (count + 1, q)) (λ e. RefusesLine (trace_kind count) line 1 e)

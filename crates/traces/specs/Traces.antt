@@ -1,10 +1,10 @@
 -- Trace lines, as they are written, and what a text that should begin with one is read as.
-use Rattle.std.specs.Prelude.{◌≡◌, ℕ, ◌+◌, ◌≤◌, List, [], Ok, Err, codes, Result}
+use Rattle.std.specs.Prelude.{◌≡◌, ℕ, ◌+◌, ◌≤◌, List, [], codes, Result, MatchResult}
 use Rattle.logic.specs.declared.types.State.{State}
 use Rattle.faults.specs.declared.line.LineFault.{LineFault}
 use Rattle.fields.specs.Lines.{Small, field, number_limit}
 use Rattle.fields.specs.Kinds.{Kind, Takes, Refuses}
-use Rattle.traces.specs.declared.states.StateLine.{StateLine}
+use Rattle.fields.specs.declared.lines.Taken.{Taken}
 
 -- the line of state number i
 abbrev pub trace_line : (i : ℕ) → State → List ℕ
@@ -47,10 +47,10 @@ trace_kind count = record {
 }
 
 -- What a text is read as after a count of states. The place of a refusal is line 1.
-abbrev pub Reads : List ℕ → (count : ℕ) → Result StateLine LineFault → Type 0
-Reads text count (Ok a) = Takes (trace_kind count) text (count + 1, a.state) a.used
-Reads text count (Err e) = Refuses (trace_kind count) text 1 e
+abbrev pub Reads : List ℕ → (count : ℕ) → Result (Taken State) LineFault → Type 0
+Reads text count r =
+    MatchResult r (λ a. Takes (trace_kind count) text (count + 1, a.value) a.used) (λ e. Refuses (trace_kind count) text 1 e)
 
 -- A text is read in one way only.
 abbrev pub OneReading : Type 0
-OneReading = (text : List ℕ) (count : ℕ) (r s : Result StateLine LineFault) → Reads text count r → Reads text count s → r ≡ s
+OneReading = (text : List ℕ) (count : ℕ) (r s : Result (Taken State) LineFault) → Reads text count r → Reads text count s → r ≡ s

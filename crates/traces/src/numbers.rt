@@ -3,8 +3,8 @@ ghost use Rattle.fields.specs.Kinds.{ShowsNone};
 ghost use Rattle.traces.specs.Traces.{Formed, trace_kind, trace_line};
 ghost use Rattle.traces.specs.Shown.{state_of};
 
-use fields::values::number_under;
-use keys::{Key, TraceKey};
+use fields::values::Fields;
+use keys::TraceKey;
 
 // The numbers of a trace line, as they stand.
 #[derive(Drop, Clone, Copy)]
@@ -22,23 +22,24 @@ pub(crate) struct Numbers {
 pub(crate) fn numbers_of(line: &[u8]) -> Option<Numbers>
     ensures { MatchOption result (ShowsNone (trace_kind 0) line.now) (λ v. Formed v.state (state_of v) × (line.now ≡ trace_line v.state (state_of v))) }
 {
-    let state = number_under(line, 0, Key::Trace(TraceKey::State))?;
-    let signals = number_under(line, state.to, Key::Trace(TraceKey::Signals))?;
-    let mark = number_under(line, signals.to, Key::Trace(TraceKey::Mark))?;
-    let ka = number_under(line, mark.to, Key::Trace(TraceKey::FirstKind))?;
-    let ta = number_under(line, ka.to, Key::Trace(TraceKey::FirstTarget))?;
-    let kb = number_under(line, ta.to, Key::Trace(TraceKey::SecondKind))?;
-    let tb = number_under(line, kb.to, Key::Trace(TraceKey::SecondTarget))?;
-    if tb.to < line.len() {
+    let mut fields = Fields::of(line);
+    let state = fields.number(TraceKey::State)?;
+    let signals = fields.number(TraceKey::Signals)?;
+    let nominal = fields.number(TraceKey::Mark)?;
+    let first_kind = fields.number(TraceKey::FirstKind)?;
+    let first_target = fields.number(TraceKey::FirstTarget)?;
+    let second_kind = fields.number(TraceKey::SecondKind)?;
+    let second_target = fields.number(TraceKey::SecondTarget)?;
+    if !fields.is_at_end() {
         return None;
     }
     Some(Numbers {
-        state: state.number,
-        signals: signals.number,
-        nominal: mark.number,
-        first_kind: ka.number,
-        first_target: ta.number,
-        second_kind: kb.number,
-        second_target: tb.number,
+        state,
+        signals,
+        nominal,
+        first_kind,
+        first_target,
+        second_kind,
+        second_target,
     })
 }

@@ -1,57 +1,43 @@
-ghost use Rattle.std.specs.Prelude.{◌≡◌, ◌+◌, length, MatchOption, MatchResult};
+ghost use Rattle.std.specs.Prelude.{◌≡◌, ◌+◌, ◌≤◌, MatchOption};
 ghost use Rattle.traces.specs.Traces.{Allowed, Reads};
 ghost use Rattle.traces.specs.Shown.{state_of, Judged};
 
 use crate::numbers::{Numbers, numbers_of};
 use faults::line::LineFault;
-use fields::lines::{bytes_of, first_line};
-use fields::numbers::NUMBER_LIMIT;
+use fields::lines::{Taken, read_line};
 use logic::types::{Reference, State};
 
-const LAST_STATE: u64 = 256;
+const LAST_STATE: usize = 256;
 
 const LAST_KIND: u64 = 15;
 
 const LAST_TARGET: u64 = 256;
 
-const LAST_NOMINAL: u64 = 255;
-
-// A state that was read, and how many bytes its line took.
-#[derive(Drop, Clone, Copy)]
-pub struct StateLine {
-    pub state: State,
-    pub used: usize,
+// The reference of two numbers, if they are in their ranges.
+fn reference_of(kind: u64, target: u64) -> Option<Reference>
+    ensures { MatchOption result ((kind ≤ 15) × (target ≤ 256) → ⊥) (λ r. (kind ≤ 15) × (target ≤ 256) × (r.kind ≡ kind) × (r.target ≡ target)) }
+{
+    if kind > LAST_KIND || target > LAST_TARGET {
+        return None;
+    }
+    Some(Reference {
+        kind: u8::try_from(kind).ok()?,
+        target: u16::try_from(target).ok()?,
+    })
 }
 
 // The state that the numbers of a line give after a count of states, if they are in their ranges.
 fn state_of(v: Numbers, count: usize) -> Option<State>
     ensures { MatchOption result ((v.state ≡ count + 1) × Allowed v.state (state_of v) → ⊥) (λ q. (v.state ≡ count + 1) × Allowed v.state (state_of v) × (q ≡ state_of v)) }
 {
-    if count as u64 >= LAST_STATE
-        || v.state != count as u64 + 1
-        || v.signals > NUMBER_LIMIT
-        || v.nominal > LAST_NOMINAL
-    {
-        return None;
-    }
-    if v.first_kind > LAST_KIND
-        || v.first_target > LAST_TARGET
-        || v.second_kind > LAST_KIND
-        || v.second_target > LAST_TARGET
-    {
+    if count >= LAST_STATE || v.state != count as u64 + 1 {
         return None;
     }
     Some(State {
-        signals: v.signals as u32,
-        nominal: v.nominal as u8,
-        first: Reference {
-            kind: v.first_kind as u8,
-            target: v.first_target as u16,
-        },
-        second: Reference {
-            kind: v.second_kind as u8,
-            target: v.second_target as u16,
-        },
+        signals: u32::try_from(v.signals).ok()?,
+        nominal: u8::try_from(v.nominal).ok()?,
+        first: reference_of(v.first_kind, v.first_target)?,
+        second: reference_of(v.second_kind, v.second_target)?,
     })
 }
 
@@ -59,23 +45,13 @@ fn state_of(v: Numbers, count: usize) -> Option<State>
 fn judge(line: &[u8], count: usize) -> Result<State, LineFault>
     ensures { Judged line.now count result }
 {
-    let Some(v) = numbers_of(line) else {
-        return Err(LineFault::Form(1));
-    };
-    match state_of(v, count) {
-        Some(state) => Ok(state),
-        None => Err(LineFault::Range(1)),
-    }
+    let numbers = numbers_of(line).ok_or(LineFault::Form(1))?;
+    state_of(numbers, count).ok_or(LineFault::Range(1))
 }
 
 // The state that the first line of a text shows, after a count of states.
-pub fn read_state(text: &[u8], count: usize) -> Result<StateLine, LineFault>
+pub fn read_state(text: &[u8], count: usize) -> Result<Taken<State>, LineFault>
     ensures { Reads text.now count result }
 {
-    let line = first_line(text, 1)?;
-    let state = judge(line, count)?;
-    Ok(StateLine {
-        state,
-        used: bytes_of(line),
-    })
+    read_line(text, 1, |line| judge(line, count))
 }

@@ -44,7 +44,7 @@ const V: u8 = b'v';
 const X: u8 = b'x';
 
 // The operators of formulas; a nominal's word is `mark`, and that of a state-referencing proposition `link`.
-#[derive(Drop, Clone, Copy)]
+#[derive(Drop, Clone, Copy, PartialEq, Eq, Debug)]
 pub enum Operator {
     True,
     Signal,

@@ -1,10 +1,12 @@
-use Rattle.std.proofs.Common.{◌≡◌, ◌+◌, ◌-◌, length, take, drop, subst, arith}
-use Rattle.fields.specs.Lines.{FirstLine}
-use Rattle.fields.proofs.Ends.{line_by_end}
+use Rattle.std.proofs.Common.{arith, ◌∙◌, sym, rules}
+use Rattle.std.proofs.lemmas.Result.{err_from_is_err_and}
+use Rattle.fields.proofs.Ends.{line_by_place, torn_by_place}
 use Rattle.fields.proofs.lines.first_line.Goals as goal
 
-pub returns-in-Some : goal.returns-in-Some
-returns-in-Some c =
-    let t = c.args.text.now in
-    let e : c.in-Some.n ≡ c.in-Some.n - 0 = omega arith in
-    subst (λ z. FirstLine t (take z t) (drop (length (take z t) + 1) t)) e (line_by_end t c.in-Some.n c.in-Some.ensures)
+pub returns-in_err-n : goal.returns-in_err-n
+returns-in_err-n c =
+    let p = err_from_is_err_and c.from_residual.result c.from_residual.ensures.1 in
+    rw (p.1, p.2) (grind arith, torn_by_place c.args.text.now c.min.result (search rules) (sym c.place_of.ensures ∙ c.in_err-n.ensures.ok_part))
+
+pub returns : goal.returns
+returns c = line_by_place c.args.text.now c.min.result (search rules) c.in_ok-n.n (sym c.place_of.ensures ∙ c.in_ok-n.ensures.ok_part)

@@ -1,25 +1,30 @@
-use Rattle.std.proofs.Common.{◌^◌, ◌<◌, arith}
+use Rattle.std.proofs.Common.{◌^◌, ◌<◌, length, get_or, arith}
+use Rattle.std.specs.Int.{IsInRange}
 use Rattle.fields.proofs.Numerals.{Form, number_form, so_far, digit_step, no_digit, ended}
 use Rattle.fields.proofs.numbers.number.Goals as goal
 
-pub returns-then-text-eq0 : goal.returns-then-text-eq0
-returns-then-text-eq0 c n h = let f : Form c.args.text.now = number_form c.args.text.now n h in omega arith
+pub returns-then-is_empty : goal.returns-then-is_empty
+returns-then-is_empty c n h = let f : Form c.args.text.now = number_form c.args.text.now n h in grind (arith, f.some)
 
 pub returns-then-text-gt1 : goal.returns-then-text-gt1
 returns-then-text-gt1 c n h =
     let f : Form c.args.text.now = number_form c.args.text.now n h in omega (arith, f.lead (omega arith))
 
-pub returns-then-b-lt-ZERO : goal.returns-then-b-lt-ZERO
-returns-then-b-lt-ZERO c n h = omega (arith, no_digit c.args.text.now c.loop-i.i n (omega arith) h)
+pub returns-then-not-is_ascii_digit : goal.returns-then-not-is_ascii_digit
+returns-then-not-is_ascii_digit c n h = let d = no_digit c.args.text.now c.loop-b.b-index n (omega arith) h in grind (arith, d.0, d.1)
 
 pub overflow_mul-n : goal.overflow_mul-n
-overflow_mul-n c = let s : c.loop-i.n < 10 ^ 10 = so_far c.args.text.now c.loop-i.i c.loop-i.n (omega arith) (omega arith) c.loop-i.invariant.0 c.loop-i.invariant.1 in omega arith
+overflow_mul-n c = let s : c.loop-b.n < 10 ^ 10 = so_far c.args.text.now c.loop-b.b-index c.loop-b.n (omega arith) (omega arith) c.loop-b.invariant.0 c.loop-b.invariant.1 in omega arith
 
 pub overflow_add-n : goal.overflow_add-n
-overflow_add-n c = let s : c.loop-i.n < 10 ^ 10 = so_far c.args.text.now c.loop-i.i c.loop-i.n (omega arith) (omega arith) c.loop-i.invariant.0 c.loop-i.invariant.1 in omega arith
+overflow_add-n c = let s : c.loop-b.n < 10 ^ 10 = so_far c.args.text.now c.loop-b.b-index c.loop-b.n (omega arith) (omega arith) c.loop-b.invariant.0 c.loop-b.invariant.1 in grind (arith, s)
 
-pub loop-i-preserved : goal.loop-i-preserved
-loop-i-preserved c = digit_step c.args.text.now c.loop-i.i c.loop-i.n (omega arith) (omega arith) c.loop-i.invariant.0 c.loop-i.invariant.1 (omega arith) (omega arith)
+pub loop-b-preserved : goal.loop-b-preserved
+loop-b-preserved c =
+    let d : IsInRange 48 57 (get_or c.args.text.now c.loop-b.b-index 0) = grind arith in
+    rw c.from.ensures (digit_step c.args.text.now c.loop-b.b-index c.loop-b.n (omega arith) (omega arith) c.loop-b.invariant.0 c.loop-b.invariant.1 d.0 d.1)
 
 pub returns : goal.returns
-returns c = ended c.args.text.now c.loop-i.i c.loop-i.n c.loop-i-test.false c.loop-i.invariant.0 c.loop-i.invariant.1 (omega arith) (omega arith) (λ z. omega arith)
+returns c =
+    let s : 0 < length c.args.text.now = grind arith in
+    ended c.args.text.now c.loop-b.b-index c.loop-b.n c.loop-b-test.false c.loop-b.invariant.0 c.loop-b.invariant.1 s (omega arith) (λ z. omega (arith, s))

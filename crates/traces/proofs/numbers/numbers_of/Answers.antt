@@ -1,36 +1,44 @@
+use Rattle.std.proofs.Common.{sym, ◌∙◌}
 use Rattle.fields.proofs.Shown.{whole, done, next, later, over, missing}
 use Rattle.traces.proofs.Showing.{breaks}
 use Rattle.traces.proofs.numbers.numbers_of.Goals as goal
 
 pub returns-in_err-signals : goal.returns-in_err-signals
 returns-in_err-signals c =
-    rw c.from_residual-in_err-signals.ensures (breaks c.args.line.now (λ i q f. later c.in_ok-state.ensures.took (missing c.in_err-signals.ensures f.signals)))
+    rw c.from_residual-in_err-signals.ensures
+    (breaks _ c.args.line.now c.of-fields.ensures (λ i q f. later c.in_ok-state.ensures.read.took (missing c.in_err-signals.ensures.read f.signals)))
 
-pub returns-in_err-mark : goal.returns-in_err-mark
-returns-in_err-mark c =
-    rw c.from_residual-in_err-mark.ensures (breaks c.args.line.now (λ i q f. later c.in_ok-state.ensures.took (later c.in_ok-signals.ensures.took (missing c.in_err-mark.ensures f.nominal))))
+pub returns-in_err-nominal : goal.returns-in_err-nominal
+returns-in_err-nominal c =
+    rw c.from_residual-in_err-nominal.ensures
+    (breaks _ c.args.line.now c.of-fields.ensures (λ i q f. later c.in_ok-state.ensures.read.took (later c.in_ok-signals.ensures.read.took (missing c.in_err-nominal.ensures.read f.nominal))))
 
-pub returns-in_err-ka : goal.returns-in_err-ka
-returns-in_err-ka c =
-    rw c.from_residual-in_err-ka.ensures (breaks c.args.line.now (λ i q f. later c.in_ok-state.ensures.took (later c.in_ok-signals.ensures.took (later c.in_ok-mark.ensures.took (missing c.in_err-ka.ensures f.first_kind)))))
+pub returns-in_err-first_kind : goal.returns-in_err-first_kind
+returns-in_err-first_kind c =
+    rw c.from_residual-in_err-first_kind.ensures
+    (breaks _ c.args.line.now c.of-fields.ensures (λ i q f. later c.in_ok-state.ensures.read.took (later c.in_ok-signals.ensures.read.took (later c.in_ok-nominal.ensures.read.took (missing c.in_err-first_kind.ensures.read f.first_kind)))))
 
-pub returns-in_err-ta : goal.returns-in_err-ta
-returns-in_err-ta c =
-    rw c.from_residual-in_err-ta.ensures (breaks c.args.line.now (λ i q f. later c.in_ok-state.ensures.took (later c.in_ok-signals.ensures.took (later c.in_ok-mark.ensures.took (later c.in_ok-ka.ensures.took (missing c.in_err-ta.ensures f.first_target))))))
+pub returns-in_err-first_target : goal.returns-in_err-first_target
+returns-in_err-first_target c =
+    rw c.from_residual-in_err-first_target.ensures
+    (breaks _ c.args.line.now c.of-fields.ensures (λ i q f. later c.in_ok-state.ensures.read.took (later c.in_ok-signals.ensures.read.took (later c.in_ok-nominal.ensures.read.took (later c.in_ok-first_kind.ensures.read.took (missing c.in_err-first_target.ensures.read f.first_target))))))
 
-pub returns-in_err-kb : goal.returns-in_err-kb
-returns-in_err-kb c =
-    rw c.from_residual-in_err-kb.ensures (breaks c.args.line.now (λ i q f. later c.in_ok-state.ensures.took (later c.in_ok-signals.ensures.took (later c.in_ok-mark.ensures.took (later c.in_ok-ka.ensures.took (later c.in_ok-ta.ensures.took (missing c.in_err-kb.ensures f.second_kind)))))))
+pub returns-in_err-second_kind : goal.returns-in_err-second_kind
+returns-in_err-second_kind c =
+    rw c.from_residual-in_err-second_kind.ensures
+    (breaks _ c.args.line.now c.of-fields.ensures (λ i q f. later c.in_ok-state.ensures.read.took (later c.in_ok-signals.ensures.read.took (later c.in_ok-nominal.ensures.read.took (later c.in_ok-first_kind.ensures.read.took (later c.in_ok-first_target.ensures.read.took (missing c.in_err-second_kind.ensures.read f.second_kind)))))))
 
-pub returns-in_err-tb : goal.returns-in_err-tb
-returns-in_err-tb c =
-    rw c.from_residual-in_err-tb.ensures (breaks c.args.line.now (λ i q f. later c.in_ok-state.ensures.took (later c.in_ok-signals.ensures.took (later c.in_ok-mark.ensures.took (later c.in_ok-ka.ensures.took (later c.in_ok-ta.ensures.took (later c.in_ok-kb.ensures.took (missing c.in_err-tb.ensures f.second_target))))))))
+pub returns-in_err-second_target : goal.returns-in_err-second_target
+returns-in_err-second_target c =
+    rw c.from_residual-in_err-second_target.ensures
+    (breaks _ c.args.line.now c.of-fields.ensures (λ i q f. later c.in_ok-state.ensures.read.took (later c.in_ok-signals.ensures.read.took (later c.in_ok-nominal.ensures.read.took (later c.in_ok-first_kind.ensures.read.took (later c.in_ok-first_target.ensures.read.took (later c.in_ok-second_kind.ensures.read.took (missing c.in_err-second_target.ensures.read f.second_target))))))))
 
-pub returns-then-tb-line : goal.returns-then-tb-line
-returns-then-tb-line c = breaks c.args.line.now (λ i q f. later c.in_ok-state.ensures.took (later c.in_ok-signals.ensures.took (later c.in_ok-mark.ensures.took (later c.in_ok-ka.ensures.took (later c.in_ok-ta.ensures.took (later c.in_ok-kb.ensures.took (later c.in_ok-tb.ensures.took (over c.if-tb-line.true))))))))
+pub returns-then-not-is_at_end : goal.returns-then-not-is_at_end
+returns-then-not-is_at_end c =
+    breaks _ c.args.line.now c.of-fields.ensures (λ i q f. later c.in_ok-state.ensures.read.took (later c.in_ok-signals.ensures.read.took (later c.in_ok-nominal.ensures.read.took (later c.in_ok-first_kind.ensures.read.took (later c.in_ok-first_target.ensures.read.took (later c.in_ok-second_kind.ensures.read.took (later c.in_ok-second_target.ensures.read.took (over (λ e. let b = c.is_at_end.ensures.1 e in cc (b, c.if-not-is_at_end.true))))))))))
 
 pub returns : goal.returns
 returns c = (
-  record { number = c.in_ok-state.ensures.small; signals = c.in_ok-signals.ensures.small; nominal = c.in_ok-mark.ensures.small; first_kind = c.in_ok-ka.ensures.small; first_target = c.in_ok-ta.ensures.small; second_kind = c.in_ok-kb.ensures.small; second_target = c.in_ok-tb.ensures.small },
-  whole (next c.in_ok-state.ensures.took (next c.in_ok-signals.ensures.took (next c.in_ok-mark.ensures.took (next c.in_ok-ka.ensures.took (next c.in_ok-ta.ensures.took (next c.in_ok-kb.ensures.took (next c.in_ok-tb.ensures.took (done c.if-tb-line.false)))))))),
+  record { number = c.in_ok-state.ensures.read.small; signals = c.in_ok-signals.ensures.read.small; nominal = c.in_ok-nominal.ensures.read.small; first_kind = c.in_ok-first_kind.ensures.read.small; first_target = c.in_ok-first_target.ensures.read.small; second_kind = c.in_ok-second_kind.ensures.read.small; second_target = c.in_ok-second_target.ensures.read.small },
+  sym c.of-fields.ensures ∙ whole (next c.in_ok-state.ensures.read.took (next c.in_ok-signals.ensures.read.took (next c.in_ok-nominal.ensures.read.took (next c.in_ok-first_kind.ensures.read.took (next c.in_ok-first_target.ensures.read.took (next c.in_ok-second_kind.ensures.read.took (next c.in_ok-second_target.ensures.read.took (done (c.is_at_end.ensures.0 c.if-not-is_at_end.false))))))))),
 )

@@ -1,9 +1,10 @@
-use Rattle.std.proofs.Common.{refl}
+use Rattle.std.proofs.Common.{refl, rules}
+use Rattle.fields.proofs.Judged.{judged_by, holds}
 use Rattle.traces.specs.Shown.{state_of}
 use Rattle.traces.proofs.states.judge.Goals as goal
 
-pub returns-in-None : goal.returns-in-None
-returns-in-None c =
-    let v = c.in-Some.v in
-    let h = c.in-Some.ensures in
-    (refl, ((v.state, state_of v), h.1, h.0, c.in-None.ensures))
+pub returns : goal.returns
+returns c =
+    let v = c.in_ok-numbers.numbers in
+    let h = holds _ _ c.numbers_of.result v c.numbers_of.ensures c.in_ok-numbers.ensures.ok_part in
+    judged_by _ _ _ _ c.state_of.result _ c.ok_or-2.result c.ok_or-2.ensures.value c.state_of.ensures (λ q m. search rules) (λ n. (refl, ((v.state, state_of v), h.1, h.0, n)))
