@@ -3,6 +3,7 @@
 
 ghost use Rattle.std.specs.Prelude.{◌≡◌, ℕ, ◌+◌, ◌<◌, ◌≤◌, true, false, ◌⊎◌, List, [], ◌∷◌, ◌++◌, length, Decides, MatchOption, slice_index_or};
 ghost use Rattle.logic.specs.States.{state_at};
+ghost use Rattle.logic.specs.declared.types.State.{State};
 ghost use Rattle.logic.specs.Lawful.{Unfit, NominalTaken, ReferenceUnfit, LawfulRecord};
 ghost use Rattle.lawful.specs.Unlawful.{FirstUnlawful, joined, MayFollow, MayNotFollow};
 
@@ -22,7 +23,8 @@ fn is_unfit(reference: Reference, i: usize) -> bool
 
 // Whether state i has a reference that it may not have.
 fn has_unfit(state: State, i: usize) -> bool
-    ensures { Decides result (Unfit state.first i ⊎ Unfit state.second i) }
+    ensures here { Decides result (Unfit state.first i ⊎ Unfit state.second i) }
+    ensures next { (xs : List State) → i ≡ length xs + 1 → Decides result (ReferenceUnfit (joined xs state) i) }
 {
     is_unfit(state.first, i) || is_unfit(state.second, i)
 }
