@@ -1,2 +1,3 @@
+pub mod Upto
 pub mod Seen
 pub mod Joins

@@ -3,6 +3,7 @@
 
 ghost use Rattle.std.specs.Prelude.{◌≡◌, ℕ, ◌+◌, ◌<◌, ◌≤◌, true, false, ◌⊎◌, List, [], ◌∷◌, ◌++◌, length, Decides, MatchOption, slice_index_or};
 ghost use Rattle.logic.specs.States.{state_at};
+ghost use Rattle.logic.specs.declared.types.State.{State};
 ghost use Rattle.logic.specs.Lawful.{Unfit, NominalTaken, ReferenceUnfit, LawfulRecord};
 ghost use Rattle.lawful.specs.Unlawful.{FirstUnlawful, joined, MayFollow, MayNotFollow};
 
@@ -16,13 +17,14 @@ fn is_unfit(reference: Reference, i: usize) -> bool
     if reference.kind == 0 {
         reference.target > 0
     } else {
-        reference.kind > 15 || reference.target == 0 || reference.target as usize >= i
+        reference.kind > 15 || reference.target == 0 || usize::from(reference.target) >= i
     }
 }
 
 // Whether state i has a reference that it may not have.
 fn has_unfit(state: State, i: usize) -> bool
-    ensures { Decides result (Unfit state.first i ⊎ Unfit state.second i) }
+    ensures here { Decides result (Unfit state.first i ⊎ Unfit state.second i) }
+    ensures next { (xs : List State) → i ≡ length xs + 1 → Decides result (ReferenceUnfit (joined xs state) i) }
 {
     is_unfit(state.first, i) || is_unfit(state.second, i)
 }
@@ -39,15 +41,16 @@ fn was_seen(nominal: usize, seen: &[bool]) -> bool
 pub fn first_unlawful<R: Readable>(log: &R) -> Option<Refusal>
     ensures { MatchOption result (LawfulRecord (R.states log.now)) (λ u. FirstUnlawful (R.states log.now) u) }
 {
+    // One flag for each nominal: fixed memory, for there is no heap.
     let mut seen = [false; 256];
-    for p in 0..log.count() {
-        let state = log.state(p + 1);
-        let nominal = state.nominal as usize;
+    for i in 1..=log.count() {
+        let state = log.state(i);
+        let nominal = usize::from(state.nominal);
         if was_seen(nominal, &seen) {
-            return Some(Refusal::NominalTaken(p + 1));
+            return Some(Refusal::NominalTaken(i));
         }
-        if has_unfit(state, p + 1) {
-            return Some(Refusal::ReferenceUnfit(p + 1));
+        if has_unfit(state, i) {
+            return Some(Refusal::ReferenceUnfit(i));
         }
         seen[nominal] = true;
     }
@@ -58,24 +61,7 @@ pub fn first_unlawful<R: Readable>(log: &R) -> Option<Refusal>
 fn is_taken<R: Readable>(log: &R, state: State) -> bool
     ensures { Decides result (NominalTaken (joined (R.states log.now) state) (length (R.states log.now) + 1)) }
 {
-    if state.nominal == 0 {
-        return false;
-    }
-    for p in 0..log.count() {
-        if log.state(p + 1).nominal == state.nominal {
-            return true;
-        }
-    }
-    false
-}
-
-// Whether a state would have an unfit reference as the one after the n states of the record.
-fn is_misled<R: Readable>(log: &R, state: State, i: usize) -> bool
-    requires { i ≡ length (R.states log.now) + 1 }
-    ensures { Decides result (ReferenceUnfit (joined (R.states log.now) state) i) }
-{
-    let _ = log;
-    has_unfit(state, i)
+    state.nominal > 0 && (1..=log.count()).any(|i| log.state(i).nominal == state.nominal)
 }
 
 // Why a state may not follow those of a record, if there is a reason; a record of 256 states is not continued.
@@ -89,7 +75,7 @@ pub fn next_unlawful<R: Readable>(log: &R, state: State) -> Option<Refusal>
     if is_taken(log, state) {
         return Some(Refusal::NominalTaken(n + 1));
     }
-    if is_misled(log, state, n + 1) {
+    if has_unfit(state, n + 1) {
         return Some(Refusal::ReferenceUnfit(n + 1));
     }
     None

@@ -1,18 +1,15 @@
-use Rattle.std.proofs.Common.{true, false, sym, refl, ap, ◌∙◌, arith}
-use Rattle.std.proofs.lemmas.Bool.{false≢true}
-use Rattle.logic.specs.declared.types.State.{State}
+use Rattle.std.proofs.Common.{◌≡◌, ℕ, length, rules}
+use borrow.Author.Tests.{tests}
+use Rattle.std.proofs.lemmas.Iterator.{cases_from_any}
+use Rattle.logic.specs.States.{state_at}
+use Rattle.lawful.proofs.Upto.{upto_gives, any_upto}
 use Rattle.lawful.proofs.Joins.{taken_joined}
 use Rattle.lawful.proofs.is_taken.Goals as goal
 
-pub returns-then-state-eq0 : goal.returns-then-state-eq0
-returns-then-state-eq0 g c = taken_joined (g.R.Readable.states c.args.log.now) c.args.state false ((λ h. absurd (false≢true h)), (λ u. absurd (omega (arith, u.0))))
-
-pub returns-then-state : goal.returns-then-state
-returns-then-state g c =
-    taken_joined (g.R.Readable.states c.args.log.now) c.args.state true
-    ((λ _. (omega arith, (c.loop-p.p, omega arith, ap (λ (q : State). q.nominal) (sym c.state.ensures) ∙ c.if-state.true))), (λ _. refl))
-
-pub returns : goal.returns
-returns g c =
-    taken_joined (g.R.Readable.states c.args.log.now) c.args.state false
-    ((λ h. absurd (false≢true h)), (λ u. absurd (c.loop-p.invariant u.1.0 (omega (arith, u.1.1)) u.1.2)))
+pub returns-then-state-gt0 : goal.returns-then-state-gt0
+returns-then-state-gt0 g c =
+    let xs = g.R.Readable.states c.args.log.now in
+    let Same : ℕ → Type 0 = λ i. (state_at xs i).nominal ≡ c.args.state.nominal in
+    taken_joined xs c.args.state c.any.result c.if-state-gt0.true
+    (any_upto (length xs) Same c.any.result
+    (cases_from_any _ _ _ Same (λ i. Same i → ⊥) c.any.ensures.ran (upto_gives (length xs) _ (cc) (cc) (cc)) (λ i q k. search (rules, tests)) (λ i q k. search (rules, tests))))

@@ -1,5 +1,0 @@
-use Rattle.labelling.proofs.Fills.{SinceKept}
-use Rattle.labelling.proofs.rows.label_since.Given as goal
-
-abbrev pub invariant-loop-p : goal.invariant-loop-p
-invariant-loop-p g l = SinceKept g.K.LabelKind.reads g.K.LabelKind.reach l.n l.a l.b l.own l.initial.cells l.cells l.carried l.p

@@ -1,0 +1,42 @@
+-- What a chain over `1..=n` finds. Assumes nothing.
+use Rattle.std.proofs.Common.{◌≡◌, ℕ, zero, suc, ◌+◌, ◌-◌, ◌<◌, ◌≤◌, Bool, true, false, length, get_or, Decides, MatchBool, sym, refl, ap, ◌∙◌, subst, ⊎_elim, arith}
+use Rattle.std.proofs.iter.runs.Sources.{nat_range_inclusive_steps}
+use Rattle.std.proofs.lemmas.Bool.{cases_Bool, false≢true}
+use Rattle.std.proofs.lemmas.Iterator.{YieldsList}
+use Rattle.std.proofs.lemmas.List.FromFn.{length-range_with_len, get_or-range_with_len}
+use Rattle.std.specs.Iterator.{AlwaysYields}
+use Rattle.std.specs.List.{range_with_len, AllWithin, HoldsAt}
+use Rattle.std.specs.Range.{range_inclusive_len}
+use Rattle.std.specs.declared.ops.RangeInclusive.{RangeInclusive}
+
+left : RangeInclusive ℕ → ℕ
+left s = range_inclusive_len (λ x y. y - x) s.start s.end s.exhausted
+
+gives : (n a : ℕ) (s : RangeInclusive ℕ) → left s ≡ n → (s.exhausted ≡ false → s.start ≡ a) → AlwaysYields nat_range_inclusive_steps (λ x. x) s (range_with_len a n)
+unfolding left
+gives zero a s is from = λ x j p. omega (arith, p.1.1)
+gives (suc n) a s is from =
+    let fresh : s.exhausted ≡ false =
+    ⊎_elim (λ (e : s.exhausted ≡ true). absurd (omega (arith, is, ap (range_inclusive_len (λ x y. y - x) s.start s.end) e))) (λ e. e) (cases_Bool s.exhausted) in (
+      (λ j p. omega (arith, is, p.1.0)),
+      (λ x j p. (p.1.0 ∙ from fresh, gives n (a + 1) j (omega (arith, is, p.1.1)) (λ e. p.1.2 e ∙ ap (λ k. k + 1) (from fresh)))),
+    )
+
+-- `1..=n` gives the numbers from 1 to n
+pub upto_gives : (n : ℕ) (s : RangeInclusive ℕ) → s.start ≡ 1 → s.end ≡ n → s.exhausted ≡ false → YieldsList nat_range_inclusive_steps (λ x. x) s (range_with_len 1 n)
+unfolding left
+upto_gives n s from to fresh = record { runs = gives n 1 s (omega (arith, ap (range_inclusive_len (λ x y. y - x) s.start s.end) fresh)) (λ e. from) }
+
+at-upto : (n i : ℕ) → 1 ≤ i → i ≤ n → get_or (range_with_len 1 n) (i - 1) 0 ≡ i
+at-upto n i one le = get_or-range_with_len 1 n (i - 1) 0 (omega arith) ∙ omega arith
+
+-- what `any` says
+pub any_upto : (n : ℕ) (P : ℕ → Type 0) (r : Bool) → MatchBool r ((k : ℕ) × (k < length (range_with_len 1 n)) × HoldsAt P (range_with_len 1 n) k) (AllWithin (λ i. P i → ⊥) (range_with_len 1 n) 0 (length (range_with_len 1 n)))
+    → Decides r ((i : ℕ) × (1 ≤ i) × (i ≤ n) × P i)
+any_upto n P true h =
+    let less : h.0 < n = omega (arith, h.1, length-range_with_len 1 n) in
+    ((λ _. (h.0 + 1, omega arith, omega arith, subst P (get_or-range_with_len 1 n h.0 0 less ∙ omega arith) (h.2 0))), (λ _. refl))
+any_upto n P false h = (
+  (λ e. absurd (false≢true e)),
+  (λ w. absurd (h (w.0 - 1) 0 (omega arith) (omega (arith, w.1, w.2, length-range_with_len 1 n)) (subst P (sym (at-upto n w.0 w.1 w.2)) w.3))),
+)
