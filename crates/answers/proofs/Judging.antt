@@ -1,5 +1,5 @@
 -- From the laws of labels: what holds of a monitor's answers over lawful states.
-use Rattle.std.proofs.Common.{◌≡◌, ℕ, suc, ◌+◌, ◌<◌, ◌≤◌, List, [], ◌∷◌, ◌++◌, length, get_or, sym, ap, ◌∙◌, subst, ap₂, arith}
+use Rattle.std.proofs.Common.{◌≡◌, ℕ, suc, ◌+◌, ◌<◌, ◌≤◌, List, [], ◌∷◌, ◌++◌, length, get_or, Some, Ok, Option, sym, ap, ◌∙◌, subst, ap₂, arith}
 use Rattle.std.specs.List.{slice_get}
 use Rattle.std.proofs.lemmas.List.{length_push}
 use Rattle.logic.specs.declared.types.State.{State}
@@ -18,7 +18,7 @@ use Rattle.expectations.proofs.Once.{happens_once}
 use Rattle.expectations.proofs.Stays.{verdict_same, standings_stay_lem, notices_stay_lem}
 use Rattle.answers.specs.declared.types.Call.TheVariants.{LabelAt, StandingAt, TallyOf, NoticeOf}
 use Rattle.answers.specs.declared.types.Answer.TheVariants.{Reads, Stands, Counts, Tells}
-use Rattle.answers.specs.Answers.{Ground, unless, told, told_notice}
+use Rattle.answers.specs.Answers.{Ground, outcome, told}
 use Rattle.answers.specs.Law.{Takes, ToldOnce, NeverTold, Founded, Judged}
 use Rattle.answers.proofs.Tested.{takes_fit, fit_takes, takes_lawful}
 use Rattle.answers.proofs.Deciding.{true_has_date, false_has_date, decided_stays}
@@ -26,13 +26,13 @@ use Rattle.answers.proofs.Telling.{asked_more, label_told, label_tells, standing
 
 module _ (G : Ground) (F : Founded G) (xs : List State) (law : LawfulRecord xs) (small : length xs ≤ 256) where
   -- ── What is decided is so ──
-  true_so : (f i c : ℕ) → told G xs (LabelAt f i c) ≡ Reads is.True → (u : Trace) → Lawful u → Begins xs u → (v : ℕ) → Holds u v i (G.trees f)
+  true_so : (f i c : ℕ) → told G xs (LabelAt f i c) ≡ Ok (Reads is.True) → (u : Trace) → Lawful u → Begins xs u → (v : ℕ) → Holds u v i (G.trees f)
   true_so f i c t u lu b v =
       let p = label_told G xs f i c is.True t in
       let d = true_has_date (G.labelled xs f i) c p.1 in
       (F.sound xs law small u lu b f i d.0 p.0.is_closed p.0.state_from p.0.state_to v).0 d.1
 
-  false_not : (f i c : ℕ) → told G xs (LabelAt f i c) ≡ Reads is.False → (u : Trace) → Lawful u → Begins xs u → (v : ℕ) → Holds u v i (G.trees f) → ⊥
+  false_not : (f i c : ℕ) → told G xs (LabelAt f i c) ≡ Ok (Reads is.False) → (u : Trace) → Lawful u → Begins xs u → (v : ℕ) → Holds u v i (G.trees f) → ⊥
   false_not f i c t u lu b v =
       let p = label_told G xs f i c is.False t in
       let d = false_has_date (G.labelled xs f i) c p.1 in
@@ -49,7 +49,7 @@ module _ (G : Ground) (F : Founded G) (xs : List State) (law : LawfulRecord xs) 
     longer : length ys ≡ length xs + 1
     longer = length_push xs x
 
-    point_stays : (f i c : ℕ) (v : Verdict) → told G xs (LabelAt f i c) ≡ Reads v → told G ys (LabelAt f i c) ≡ Reads v
+    point_stays : (f i c : ℕ) (v : Verdict) → told G xs (LabelAt f i c) ≡ Ok (Reads v) → told G ys (LabelAt f i c) ≡ Ok (Reads v)
     point_stays f i c v t =
         let p = label_told G xs f i c v t in
         let a = p.0 in
@@ -57,7 +57,7 @@ module _ (G : Ground) (F : Founded G) (xs : List State) (law : LawfulRecord xs) 
         (asked_more G (length xs) (length ys) f i c c a (omega (arith, longer)) a.point_from (omega (arith, longer, a.point_to)))
         (verdict_same (length xs) (G.labelled xs f i) (G.labelled ys f i) (grows f i a.state_from a.state_to) c a.point_to ∙ p.1)
 
-    verdict_stays : (f i c : ℕ) (v : Verdict) → told G xs (LabelAt f i c) ≡ Reads v → (v ≡ is.Unknown → ⊥) → told G ys (LabelAt f i (suc (length xs))) ≡ Reads v
+    verdict_stays : (f i c : ℕ) (v : Verdict) → told G xs (LabelAt f i c) ≡ Ok (Reads v) → (v ≡ is.Unknown → ⊥) → told G ys (LabelAt f i (suc (length xs))) ≡ Ok (Reads v)
     verdict_stays f i c v t known =
         let p = label_told G xs f i c v t in
         let a = p.0 in
@@ -67,18 +67,18 @@ module _ (G : Ground) (F : Founded G) (xs : List State) (law : LawfulRecord xs) 
 
     standing_stays : (r i c : ℕ) → 1 ≤ i → i ≤ c → c ≤ length xs → told G ys (StandingAt r i c) ≡ told G xs (StandingAt r i c)
     standing_stays r i c one low high =
-        ap₂ unless
+        ap₂ outcome
         (standing_refusal G ys r i c one low (omega (arith, longer)) ∙ sym (standing_refusal G xs r i c one low high))
         (ap Stands (standings_stay_lem (length xs) (G.labelled xs) (G.labelled ys) grows (get_or G.rules r no_rule) i c one low high))
 
     notice_stays : (c k : ℕ) → 1 ≤ c → c ≤ length xs → told G ys (NoticeOf c k) ≡ told G xs (NoticeOf c k)
     notice_stays c k one high =
         notice_told G ys c k one (omega (arith, longer))
-        ∙ ap (λ ns. told_notice (slice_get ns k)) (notices_stay_lem (length xs) (G.labelled xs) (G.labelled ys) grows G.rules c high)
+        ∙ ap (λ ns. Ok (Tells (slice_get ns k))) (notices_stay_lem (length xs) (G.labelled xs) (G.labelled ys) grows G.rules c high)
         ∙ sym (notice_told G xs c k one high)
 
   -- ── Tallies and notices ──
-  tally_sums : (r : ℕ) (t : Tally) → told G xs (TallyOf r) ≡ Counts t → t.raised ≡ t.pending + (t.fulfilled + t.violated)
+  tally_sums : (r : ℕ) (t : Tally) → told G xs (TallyOf r) ≡ Ok (Counts t) → t.raised ≡ t.pending + (t.fulfilled + t.violated)
   tally_sums r t e =
       subst (λ (z : Tally). z.raised ≡ z.pending + (z.fulfilled + z.violated)) (tally_told G xs r t e)
       (tallies_sum_lem (G.labelled xs) (get_or G.rules r no_rule) (length xs) (length xs))
@@ -87,11 +87,11 @@ module _ (G : Ground) (F : Founded G) (xs : List State) (law : LawfulRecord xs) 
       (Happens (length xs) (G.labelled xs) G.rules x c → ToldOnce G xs x c) × ((Happens (length xs) (G.labelled xs) G.rules x c → ⊥) → NeverTold G xs x c)
   notice_once x c one high =
       let once = happens_once (length xs) (G.labelled xs) G.rules (F.dated xs law small) x c high in (
-        (λ so. let p = once.0 so in (p.0, notice_told G xs c p.0 one high ∙ ap told_notice p.1, λ j e. p.2 j (notice_stands G xs c j x e))),
+        (λ so. let p = once.0 so in (p.0, notice_told G xs c p.0 one high ∙ ap (λ (o : Option Notice). Ok (Tells o)) p.1, λ j e. p.2 j (notice_stands G xs c j x e))),
         (λ not_so k e. once.1 not_so k (notice_stands G xs c k x e)),
       )
 
-  notice_order : (c j k : ℕ) (x y : Notice) → j < k → told G xs (NoticeOf c j) ≡ Tells x → told G xs (NoticeOf c k) ≡ Tells y → Before x y
+  notice_order : (c j k : ℕ) (x y : Notice) → j < k → told G xs (NoticeOf c j) ≡ Ok (Tells (Some x)) → told G xs (NoticeOf c k) ≡ Ok (Tells (Some y)) → Before x y
   notice_order c j k x y l e f =
       notices_in_order (G.labelled xs) G.rules c j k x y l (notice_stands G xs c j x e) (notice_stands G xs c k y f)
 

@@ -1,5 +1,5 @@
 -- Which calls are answered, and with what.
-use Rattle.std.proofs.Common.{◌≡◌, ℕ, zero, suc, ◌<◌, ◌≤◌, false, leb, List, [], ◌∷◌, length, get_or, Some, None, Option, refl, ap, ap₂, arith}
+use Rattle.std.proofs.Common.{◌≡◌, ℕ, zero, suc, ◌<◌, ◌≤◌, false, leb, List, [], ◌∷◌, length, get_or, Some, None, Ok, Option, refl, ap, ap₂, arith}
 use Rattle.std.specs.List.{slice_get}
 use Rattle.std.proofs.lemmas.Bool.{leb-false, lt-leb}
 use Rattle.logic.specs.declared.types.State.{State}
@@ -11,17 +11,14 @@ use Rattle.refusals.specs.declared.Refusal.{Refusal}
 use Rattle.refusals.specs.declared.Refusal.TheVariants as refusal
 use Rattle.answers.specs.declared.types.Call.TheVariants.{LabelAt, StandingAt, TallyOf, NoticeOf}
 use Rattle.answers.specs.declared.types.Answer.{Answer}
-use Rattle.answers.specs.declared.types.Answer.TheVariants.{Refused, Reads, Counts, Tells, NoMore}
-use Rattle.answers.specs.Answers.{Ground, outside, or_else, refusal_of, answer, unless, told, told_notice}
+use Rattle.answers.specs.declared.types.Answer.TheVariants.{Reads, Counts, Tells}
+use Rattle.answers.specs.Answers.{Ground, outside, or_else, refusal_of, answer, outcome, told}
 use Rattle.answers.proofs.Refusing.{no_reason, without_reason, within, inside}
 
--- an answer that is no refusal is the one to a call that no refusal fits
-abbrev NoRefusal : Answer → Type 0
-NoRefusal z = (r : Refusal) → Refused r ≡ z → ⊥
-
-answered : (why : Option Refusal) (a z : Answer) → NoRefusal z → unless why a ≡ z → (why ≡ None) × (a ≡ z)
-answered (Some r) a z plain e = absurd (plain r e)
-answered None a z plain e = (refl, e)
+-- an answer is the one to a call that no refusal fits
+answered : (why : Option Refusal) (a z : Answer) → outcome why a ≡ Ok z → (why ≡ None) × (a ≡ z)
+answered (Some r) a z e = let n : ◌≡◌ {A = ℕ} 0 1 = cc in absurd (omega arith)
+answered None a z e = (refl, cc)
 
 -- ── Labels ──
 
@@ -69,19 +66,16 @@ asked_label G xs f i c a =
     (without_reason (outside i 1 (length xs)) refusal.NoSuchState _ (inside i 1 (length xs) a.state_from a.state_to)
     (without_reason (outside c i (length xs)) refusal.NoSuchPoint None (inside c i (length xs) a.point_from a.point_to) refl)))
 
-no_refusal_reads : (v : Verdict) → NoRefusal (Reads v)
-no_refusal_reads v r e = let z : ◌≡◌ {A = ℕ} 0 1 = cc in omega arith
-
 reads_same : (v w : Verdict) → ◌≡◌ {A = Answer} (Reads v) (Reads w) → v ≡ w
 reads_same v w e = cc
 
-pub label_told : (G : Ground) (xs : List State) (f i c : ℕ) (v : Verdict) → told G xs (LabelAt f i c) ≡ Reads v → Asked G (length xs) f i c × (verdict (G.labelled xs f i) c ≡ v)
+pub label_told : (G : Ground) (xs : List State) (f i c : ℕ) (v : Verdict) → told G xs (LabelAt f i c) ≡ Ok (Reads v) → Asked G (length xs) f i c × (verdict (G.labelled xs f i) c ≡ v)
 label_told G xs f i c v e =
-    let p = answered (refusal_of G xs (LabelAt f i c)) (answer G xs (LabelAt f i c)) (Reads v) (no_refusal_reads v) e in
+    let p = answered (refusal_of G xs (LabelAt f i c)) (answer G xs (LabelAt f i c)) (Reads v) e in
     (label_asked G xs f i c p.0, reads_same _ v p.1)
 
-pub label_tells : (G : Ground) (xs : List State) (f i c : ℕ) (v : Verdict) → Asked G (length xs) f i c → verdict (G.labelled xs f i) c ≡ v → told G xs (LabelAt f i c) ≡ Reads v
-label_tells G xs f i c v a e = ap₂ unless (asked_label G xs f i c a) (ap Reads e)
+pub label_tells : (G : Ground) (xs : List State) (f i c : ℕ) (v : Verdict) → Asked G (length xs) f i c → verdict (G.labelled xs f i) c ≡ v → told G xs (LabelAt f i c) ≡ Ok (Reads v)
+label_tells G xs f i c v a e = ap₂ outcome (asked_label G xs f i c a) (ap Reads e)
 
 -- ── Standings and tallies ──
 
@@ -92,35 +86,31 @@ standing_refusal G xs r i c one low high =
     (without_reason (outside i 1 (length xs)) refusal.NoSuchState _ (inside i 1 (length xs) one (omega arith))
     (without_reason (outside c i (length xs)) refusal.NoSuchPoint None (inside c i (length xs) low high) refl))
 
-no_refusal_counts : (t : Tally) → NoRefusal (Counts t)
-no_refusal_counts t r e = let z : ◌≡◌ {A = ℕ} 0 1 = cc in omega arith
-
 counts_same : (t u : Tally) → ◌≡◌ {A = Answer} (Counts t) (Counts u) → t ≡ u
 counts_same t u e = cc
 
-pub tally_told : (G : Ground) (xs : List State) (r : ℕ) (t : Tally) → told G xs (TallyOf r) ≡ Counts t →
+pub tally_told : (G : Ground) (xs : List State) (r : ℕ) (t : Tally) → told G xs (TallyOf r) ≡ Ok (Counts t) →
     tallied (G.labelled xs) (get_or G.rules r no_rule) (length xs) (length xs) ≡ t
-tally_told G xs r t e = counts_same _ t (answered (refusal_of G xs (TallyOf r)) (answer G xs (TallyOf r)) (Counts t) (no_refusal_counts t) e).1
+tally_told G xs r t e = counts_same _ t (answered (refusal_of G xs (TallyOf r)) (answer G xs (TallyOf r)) (Counts t) e).1
 
 -- ── Notices ──
 
-pub notice_told : (G : Ground) (xs : List State) (c k : ℕ) → 1 ≤ c → c ≤ length xs → told G xs (NoticeOf c k) ≡ told_notice (slice_get (notices (G.labelled xs) G.rules c) k)
+pub notice_told : (G : Ground) (xs : List State) (c k : ℕ) → 1 ≤ c → c ≤ length xs → told G xs (NoticeOf c k) ≡ Ok (Tells (slice_get (notices (G.labelled xs) G.rules c) k))
 notice_told G xs c k one high =
-    ap (λ why. unless why (answer G xs (NoticeOf c k))) (without_reason (outside c 1 (length xs)) refusal.NoSuchPoint None (inside c 1 (length xs) one high) refl)
+    ap (λ why. outcome why (answer G xs (NoticeOf c k))) (without_reason (outside c 1 (length xs)) refusal.NoSuchPoint None (inside c 1 (length xs) one high) refl)
 
-tells_only : (o : Option Notice) (x : Notice) → told_notice o ≡ Tells x → o ≡ Some x
-tells_only (Some y) x e = cc
-tells_only None x e = let z : ◌≡◌ {A = ℕ} 0 1 = cc in absurd (omega arith)
+tells_same : (o p : Option Notice) → ◌≡◌ {A = Answer} (Tells o) (Tells p) → o ≡ p
+tells_same o p e = cc
 
-no_refusal_tells : (x : Notice) → NoRefusal (Tells x)
-no_refusal_tells x r e = let z : ◌≡◌ {A = ℕ} 0 1 = cc in omega arith
+-- a notice that is told, or that there is none, with no refusal
+notice_is : (G : Ground) (xs : List State) (c k : ℕ) (o : Option Notice) → told G xs (NoticeOf c k) ≡ Ok (Tells o)
+    → (refusal_of G xs (NoticeOf c k) ≡ None) × (slice_get (notices (G.labelled xs) G.rules c) k ≡ o)
+notice_is G xs c k o e =
+    let p = answered (refusal_of G xs (NoticeOf c k)) (answer G xs (NoticeOf c k)) (Tells o) e in
+    (p.0, tells_same _ o p.1)
 
-pub notice_stands : (G : Ground) (xs : List State) (c k : ℕ) (x : Notice) → told G xs (NoticeOf c k) ≡ Tells x → slice_get (notices (G.labelled xs) G.rules c) k ≡ Some x
-notice_stands G xs c k x e = tells_only _ x (answered (refusal_of G xs (NoticeOf c k)) (answer G xs (NoticeOf c k)) (Tells x) (no_refusal_tells x) e).1
-
-none_only : (o : Option Notice) → told_notice o ≡ NoMore → o ≡ None
-none_only (Some x) e = let z : ◌≡◌ {A = ℕ} 0 1 = cc in absurd (omega arith)
-none_only None e = refl
+pub notice_stands : (G : Ground) (xs : List State) (c k : ℕ) (x : Notice) → told G xs (NoticeOf c k) ≡ Ok (Tells (Some x)) → slice_get (notices (G.labelled xs) G.rules c) k ≡ Some x
+notice_stands G xs c k x e = (notice_is G xs c k (Some x) e).1
 
 none_after : (ns : List Notice) (j k : ℕ) → j ≤ k → slice_get ns j ≡ None → slice_get ns k ≡ None
 none_after [] j k l e = refl
@@ -128,10 +118,7 @@ none_after (x ∷ ns) zero k l e = let z : ◌≡◌ {A = ℕ} 0 1 = cc in absur
 none_after (x ∷ ns) (suc j) zero l e = absurd (omega arith)
 none_after (x ∷ ns) (suc j) (suc k) l e = none_after ns j k (omega arith) e
 
-no_refusal_more : NoRefusal NoMore
-no_refusal_more r e = let z : ◌≡◌ {A = ℕ} 0 1 = cc in omega arith
-
-pub no_more_after : (G : Ground) (xs : List State) (c j k : ℕ) → j ≤ k → told G xs (NoticeOf c j) ≡ NoMore → told G xs (NoticeOf c k) ≡ NoMore
+pub no_more_after : (G : Ground) (xs : List State) (c j k : ℕ) → j ≤ k → told G xs (NoticeOf c j) ≡ Ok (Tells None) → told G xs (NoticeOf c k) ≡ Ok (Tells None)
 no_more_after G xs c j k l e =
-    let p = answered (refusal_of G xs (NoticeOf c j)) (answer G xs (NoticeOf c j)) NoMore no_refusal_more e in
-    ap₂ unless p.0 (ap told_notice (none_after _ j k l (none_only _ p.1)))
+    let p = notice_is G xs c j None e in
+    ap₂ outcome p.0 (ap Tells (none_after _ j k l p.1))

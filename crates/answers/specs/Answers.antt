@@ -4,14 +4,13 @@ use Rattle.std.specs.List.{slice_get}
 use Rattle.logic.specs.declared.types.Rule.{Rule}
 use Rattle.logic.specs.declared.types.State.{State}
 use Rattle.logic.specs.Logic.{Tree}
-use Rattle.expectations.specs.declared.types.Notice.{Notice}
 use Rattle.expectations.specs.Expectations.{Labels, verdict, no_rule, standing, tallied, notices}
 use Rattle.refusals.specs.declared.Refusal.{Refusal}
 use Rattle.refusals.specs.declared.Refusal.TheVariants as refusal
 use Rattle.answers.specs.declared.types.Call.{Call}
 use Rattle.answers.specs.declared.types.Call.TheVariants.{Append, LabelAt, StandingAt, TallyOf, NoticeOf}
 use Rattle.answers.specs.declared.types.Answer.{Answer}
-use Rattle.answers.specs.declared.types.Answer.TheVariants.{Refused, Number, Reads, Stands, Counts, Tells, NoMore}
+use Rattle.answers.specs.declared.types.Answer.TheVariants.{Number, Reads, Stands, Counts, Tells}
 use Rattle.answers.specs.Tests.{taken, misled}
 
 -- what a monitor stands on: the formulas as trees, how many there are and which of them are loose, the labels that a record
@@ -51,25 +50,22 @@ refusal_of G xs (StandingAt r i c) =
 refusal_of G xs (TallyOf r) = or_else (nat_le (length G.rules) r) refusal.NoSuchName None
 refusal_of G xs (NoticeOf c k) = or_else (outside c 1 (length xs)) refusal.NoSuchPoint None
 
-abbrev pub told_notice : Option Notice → Answer
-told_notice (Some x) = Tells x
-told_notice None = NoMore
-
 -- the answer to a call that no refusal fits
 abbrev pub answer : Ground → List State → Call → Answer
 answer G xs (Append x) = Number (length xs + 1)
 answer G xs (LabelAt f i c) = Reads (verdict (G.labelled xs f i) c)
 answer G xs (StandingAt r i c) = Stands (standing (G.labelled xs) (slice_index_or G.rules r no_rule) i c)
 answer G xs (TallyOf r) = Counts (tallied (G.labelled xs) (slice_index_or G.rules r no_rule) (length xs) (length xs))
-answer G xs (NoticeOf c k) = told_notice (slice_get (notices (G.labelled xs) G.rules c) k)
+answer G xs (NoticeOf c k) = Tells (slice_get (notices (G.labelled xs) G.rules c) k)
 
-abbrev pub unless : Option Refusal → Answer → Answer
-unless (Some r) a = Refused r
-unless None a = a
+-- what is answered where a refusal may fit
+abbrev pub outcome : {A : Type 0} → Option Refusal → A → Result A Refusal
+outcome (Some r) v = Err r
+outcome None v = Ok v
 
--- the answer to a call after the accepted states xs
-abbrev pub told : Ground → List State → Call → Answer
-told G xs call = unless (refusal_of G xs call) (answer G xs call)
+-- the answer to a call after the accepted states xs, or its refusal
+abbrev pub told : Ground → List State → Call → Result Answer Refusal
+told G xs call = outcome (refusal_of G xs call) (answer G xs call)
 
 -- the accepted states after one call more: an append that no refusal fits adds its state
 abbrev pub grown_by : Option Refusal → List State → State → List State
@@ -92,10 +88,6 @@ accepted G xs (c ∷ cs) = accepted G (after G xs c) cs
 abbrev pub refused_by : (own : ℕ) → Ground → List State → Call → Option Refusal
 refused_by own G xs call = cond (own == length xs) (refusal_of G xs call) (Some refusal.ForeignRecord)
 
-abbrev pub outcome : {A : Type 0} → Option Refusal → A → Result A Refusal
-outcome (Some r) v = Err r
-outcome None v = Ok v
-
 -- what one call of a monitor that has counted `own` states answers over the states xs
-abbrev pub replied : (own : ℕ) → Ground → List State → Call → Answer
-replied own G xs call = unless (refused_by own G xs call) (answer G xs call)
+abbrev pub replied : (own : ℕ) → Ground → List State → Call → Result Answer Refusal
+replied own G xs call = outcome (refused_by own G xs call) (answer G xs call)

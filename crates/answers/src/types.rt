@@ -1,9 +1,8 @@
 use expectations::types::{Notice, Standing, Tally, Verdict};
 use logic::types::State;
-use refusals::Refusal;
 
 // One call of a monitor.
-#[derive(Drop, Clone, Copy)]
+#[derive(Drop, Clone, Copy, PartialEq, Eq, Debug)]
 pub enum Call {
     Append(State),
     // The label of a formula at a state as a truncation point reads it.
@@ -16,15 +15,14 @@ pub enum Call {
     NoticeOf(usize, usize),
 }
 
-#[derive(Drop, Clone, Copy)]
+// What a monitor answers to a call that it does not refuse.
+#[derive(Drop, Clone, Copy, PartialEq, Eq, Debug)]
 pub enum Answer {
-    Refused(Refusal),
     // The number of the state that was appended.
     Number(usize),
     Reads(Verdict),
     Stands(Standing),
     Counts(Tally),
-    Tells(Notice),
-    // The truncation point has no notice with that number.
-    NoMore,
+    // The notice, if the truncation point has one with that number.
+    Tells(Option<Notice>),
 }

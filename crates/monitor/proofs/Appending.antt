@@ -1,6 +1,6 @@
 -- What an append is refused for, and what it leaves. Assumes nothing.
-use Rattle.std.proofs.Common.{◌≡◌, ℕ, ◌+◌, ◌<◌, ◌≤◌, Bool, true, false, cond, eqb, List, [], ◌∷◌, ◌++◌, length, Some, None, Ok, Err, Option, Result, sym, refl, ap, ◌∙◌, subst, ⊎_elim, arith, MatchOption}
-use Rattle.std.proofs.lemmas.Bool.{eq-eqb, eqb-true, le-leb, lt-leb, cond-true, cond-false, cases_Bool}
+use Rattle.std.proofs.Common.{◌≡◌, ℕ, ◌+◌, ◌<◌, Bool, true, false, cond, eqb, List, [], ◌∷◌, ◌++◌, length, Some, None, Ok, Err, Option, Result, sym, refl, ap, ◌∙◌, subst, ⊎_elim, arith, MatchOption}
+use Rattle.std.proofs.lemmas.Bool.{eq-eqb, eqb-true, lt-leb, cond-true, cond-false, cases_Bool}
 use Rattle.logic.specs.declared.types.State.{State}
 use Rattle.records.specs.Growth.{Appended}
 use Rattle.logic.specs.Lawful.{NominalTaken, ReferenceUnfit}
@@ -15,10 +15,6 @@ use Rattle.answers.proofs.Tested.{taken_decides, misled_decides, fit_takes}
 module _ (own : ℕ) (G : Ground) (xs : List State) (x : State) (mine : own ≡ length xs) where
   own_refusal : refusal_of G xs (Append x) ≡ refused_by own G xs (Append x)
   own_refusal = sym (cond-true _ (refusal_of G xs (Append x)) (Some refusal.ForeignRecord) (eq-eqb own (length xs) mine))
-
-  pub refused_full : length xs < 256 → G.capacity ≤ length xs → Some refusal.RecordFull ≡ refused_by own G xs (Append x)
-  refused_full short full =
-      sym (cond-false _ _ _ (lt-leb 256 (length xs) short) ∙ cond-true _ _ _ (le-leb G.capacity (length xs) full)) ∙ own_refusal
 
   module _ (short : length xs < 256) (roomy : length xs < G.capacity) where
     -- past the first two reasons

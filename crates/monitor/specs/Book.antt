@@ -1,5 +1,6 @@
 -- What a monitor's memory says.
-use Rattle.std.specs.Prelude.{◌≡◌, ℕ, zero, suc, ◌+◌, ◌-◌, ◌*◌, ◌<◌, ◌≤◌, false, List, [], ◌∷◌, length, slice_index_or}
+use Rattle.std.specs.Prelude.{◌≡◌, ℕ, ◌+◌, ◌-◌, ◌*◌, ◌<◌, ◌≤◌, false, List, length, Some, None, Option, slice_index_or}
+use Rattle.std.specs.List.{slice_get}
 use Rattle.logic.specs.declared.types.Formula.{Formula}
 use Rattle.logic.specs.declared.types.Rule.{Rule}
 use Rattle.logic.specs.declared.types.State.{State}
@@ -21,10 +22,12 @@ abbrev pub rules_in : Book → List Rule
 rules_in b = rules_of b.table.draft
 
 -- the label in a cell
-unfoldable pub cell_at : List Dated → ℕ → Label
-cell_at [] k = Unknown
-cell_at (x ∷ xs) zero = label_of_number x.value
-cell_at (x ∷ xs) (suc k) = cell_at xs k
+abbrev pub label_in : Option Dated → Label
+label_in (Some x) = label_of_number x.value
+label_in None = Unknown
+
+abbrev pub cell_at : List Dated → ℕ → Label
+cell_at xs k = label_in (slice_get xs k)
 
 -- the labels that the cells hold
 abbrev pub held : Book → Labels
@@ -48,6 +51,10 @@ pub record Right (xs : List State) (b : Book) : Type 0 where
 abbrev pub Faithful : List State → Book → Type 0
 Faithful xs b = b.count ≡ length xs → Right xs b
 
--- what a monitor with this memory stands on, over a record of the capacity
+-- what a monitor over a table with its rules stands on, with a record of the capacity
+abbrev pub ground : List Formula → List Rule → (capacity : ℕ) → Ground
+ground table rules n = record { trees = tree table; labelled = labels_of table; formulas = length table; loose = loose table; rules = rules; capacity = n }
+
+-- the ground of a monitor with this memory
 abbrev pub ground_of : Book → (capacity : ℕ) → Ground
-ground_of b n = record { trees = tree (table_of b); labelled = labels_of (table_of b); formulas = length (table_of b); loose = loose (table_of b); rules = rules_in b; capacity = n }
+ground_of b n = ground (table_of b) (rules_in b) n

@@ -34,4 +34,4 @@ WholeAnswered reads reach own table xs old oldWork (Err why) new newWork =
 -- every verdict that a monitor gives is read in the cells too, at its point: true where both readings hold, false where
 -- neither does, unknown where only the weak one does
 abbrev pub Agrees : {K : Type 0} → (K → Reading) → Ground → List State → List K → Type 0
-Agrees {K} reads G xs cells = (f i c : ℕ) (v : Verdict) → told G xs (LabelAt f i c) ≡ Reads v → (d : K) (r : Bool) → reads (slice_index_or cells (place (length xs) f i) d) r c ≡ read_as v r
+Agrees {K} reads G xs cells = (f i c : ℕ) (v : Verdict) → told G xs (LabelAt f i c) ≡ Ok (Reads v) → (d : K) (r : Bool) → reads (slice_index_or cells (place (length xs) f i) d) r c ≡ read_as v r

@@ -1,9 +1,13 @@
+ghost use Rattle.monitor.specs.Book.{Faithful};
+
 use crate::book::Book;
 use records::growing::Growing;
 
-// A monitor over a growing record, which it takes over.
+// A monitor over a growing record, which it takes over. While the record's count is the monitor's, the memory is right of the
+// record's states.
 #[derive(Drop)]
 pub struct Monitor<R: Growing> {
     pub(crate) book: Book,
     pub(crate) log: R,
+    ghost faithful: { Faithful (R.Readable.states log) book },
 }

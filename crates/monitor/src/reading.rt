@@ -1,6 +1,7 @@
 // What a monitor's memory tells, and how the tallies are counted again.
 ghost use Rattle.std.specs.Prelude.{◌≡◌, ℕ, ◌+◌, ◌-◌, ◌*◌, ◌^◌, ◌<◌, ◌≤◌, List, [], ◌∷◌, ◌++◌, length};
-ghost use Rattle.std.specs.List.{slice_get};
+ghost use Rattle.std.specs.List.{slice_get, flat_map};
+ghost use Rattle.std.specs.Option.{option_to_list};
 ghost use Rattle.expectations.specs.Expectations.{raises, standing as standing_of, tallied, added, of_state, notices};
 ghost use Rattle.table.specs.Tables.{InOrder};
 ghost use Rattle.monitor.specs.Book.{held, table_of, rules_in, SameButTallies, TalliesRight};
@@ -33,7 +34,7 @@ fn count_one(t: &mut Tally, standing: Standing)
     }
 }
 
-// The tally comes to be another.
+// The tally comes to be another. One element of the array of tallies is lent to it.
 fn change(t: &mut Tally, to: Tally)
     ensures { t.new ≡ to }
 {
@@ -46,12 +47,10 @@ impl Book {
         requires { (f < 2 ^ 16) × ((1 ≤ i) × (i < 2 ^ 16)) }
         ensures { result ≡ held self.now f i }
     {
-        let k = f * self.count + (i - 1);
-        if k >= 16384 {
-            return Label::Unknown;
+        match self.cells.get(f * self.count + (i - 1)) {
+            Some(cell) => label_told(*cell),
+            None => Label::Unknown,
         }
-        let cell = self.cells[k];
-        label_told(cell)
     }
 
     fn raises_at(&self, rule: Rule, s: usize) -> bool
@@ -78,15 +77,10 @@ impl Book {
         requires { (rule.condition < 2 ^ 16) × (rule.content < 2 ^ 16) }
         ensures { result ≡ tallied (held self.now) rule self.now.count self.now.count }
     {
-        let mut t = Tally {
-            raised: 0,
-            pending: 0,
-            fulfilled: 0,
-            violated: 0,
-        };
+        let mut t = Tally::default();
+        // Not `1..=`, after which it is not known where an empty loop ends.
         for s in 1..self.count + 1 {
-            let standing = self.standing(rule, s, self.count);
-            count_one(&mut t, standing);
+            count_one(&mut t, self.standing(rule, s, self.count));
         }
         t
     }
@@ -96,74 +90,36 @@ impl Book {
         ensures same { SameButTallies self.old self.new }
         ensures right { TalliesRight self.new (length (rules_in self.new)) }
     {
+        // By number, since no proof is made where a tally changes while the table is lent.
         for r in 0..self.table.rules().len() {
-            let rule = self.table.rules()[r];
-            let t = self.tally_of(rule);
+            let t = self.tally_of(self.table.rules()[r]);
             change(&mut self.tallies[r], t);
         }
     }
 }
 
 impl Book {
-    // How many notices a point has on the expectation that a rule has of state s.
-    fn events(&self, r: usize, rule: Rule, s: usize, point: usize) -> usize
+    // The notices that a point has on the expectation that a rule has of state s: a raising, a fulfilment, a violation.
+    fn events(&self, r: usize, rule: Rule, s: usize, point: usize) -> [Option<Notice>; 3]
         requires { (rule.condition < 2 ^ 16) × ((rule.content < 2 ^ 16) × ((1 ≤ s) × (s < 2 ^ 16))) }
-        ensures { result ≡ length (of_state (held self.now) point r rule s) }
-    {
-        let mut n = 0;
-        if self.raises_at(rule, s) {
-            let content = self.label(rule.content, s);
-            if s == point {
-                n += 1;
-            }
-            if is_true_from(content, point) {
-                n += 1;
-            }
-            if is_false_from(content, point) {
-                n += 1;
-            }
-        }
-        n
-    }
-
-    // The j-th of them.
-    fn event(&self, r: usize, rule: Rule, s: usize, point: usize, j: usize) -> Option<Notice>
-        requires { (rule.condition < 2 ^ 16) × ((rule.content < 2 ^ 16) × ((1 ≤ s) × (s < 2 ^ 16))) }
-        ensures { result ≡ slice_get (of_state (held self.now) point r rule s) j }
+        ensures { flat_map option_to_list result ≡ of_state (held self.now) point r rule s }
     {
         if !self.raises_at(rule, s) {
-            return None;
+            return [None; 3];
         }
         let content = self.label(rule.content, s);
-        let mut more = j;
-        if s == point {
-            if more == 0 {
-                return Some(Notice {
-                    rule: r,
-                    from: s,
-                    event: Event::Raising,
-                });
-            }
-            more -= 1;
-        }
-        if more > 0 {
-            return None;
-        }
-        if is_true_from(content, point) {
-            return Some(Notice {
+        let told = |is_so: bool, event: Event| {
+            is_so.then_some(Notice {
                 rule: r,
                 from: s,
-                event: Event::Fulfilling,
-            });
-        }
-        if is_false_from(content, point) {
-            return Some(Notice {
-                rule: r,
-                from: s,
-                event: Event::Violating,
-            });
-        }
-        None
+                event,
+            })
+        };
+        [
+            told(s == point, Event::Raising),
+            told(is_true_from(content, point), Event::Fulfilling),
+            told(is_false_from(content, point), Event::Violating),
+        ]
     }
 
     // The k-th notice of a point: by rule, then by raising state, a raising before its own decision.
@@ -172,20 +128,21 @@ impl Book {
         ensures found { result ≡ slice_get (notices (held self.now) (rules_in self.now) point) k }
         ensures order { InOrder (table_of self.now) (rules_in self.now) }
     {
-        let rules = self.table.rules();
         let mut more = k;
-        let mut told = None;
-        'found: for r in 0..rules.len() {
-            let rule = rules[r];
+        let mut found = None;
+        'found: for (r, rule) in self.table.rules().iter().enumerate() {
             for s in 1..point + 1 {
-                let here = self.events(r, rule, s, point);
-                if more < here {
-                    told = self.event(r, rule, s, point, more);
-                    break 'found;
+                for event in self.events(r, *rule, s, point) {
+                    if let Some(notice) = event {
+                        if more == 0 {
+                            found = Some(notice);
+                            break 'found;
+                        }
+                        more -= 1;
+                    }
                 }
-                more -= here;
             }
         }
-        told
+        found
     }
 }

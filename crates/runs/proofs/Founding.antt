@@ -1,5 +1,5 @@
 -- The labels of a table obey the laws that a monitor's answers rest on, and the answers mean what they say. Assumes nothing.
-use Rattle.std.proofs.Common.{◌≡◌, ℕ, ◌+◌, ◌≤◌, min, Bool, true, false, leb, List, [], ◌∷◌, length, Some, None, Option, sym, refl, ap, ◌∙◌, subst, inl, arith}
+use Rattle.std.proofs.Common.{◌≡◌, ℕ, ◌+◌, ◌≤◌, min, Bool, true, false, leb, List, [], ◌∷◌, length, Some, None, Err, Option, Result, sym, refl, ap, ◌∙◌, subst, inl, arith}
 use Rattle.std.proofs.lemmas.Bool.{leb-true, leb-false, true≢false}
 use Rattle.logic.specs.declared.types.Formula.{Formula}
 use Rattle.logic.specs.declared.types.Rule.{Rule}
@@ -16,13 +16,15 @@ use Rattle.growth.specs.Growth.{labels_of}
 use Rattle.growth.specs.Laws.{Right}
 use Rattle.growth.proofs.Growing.{labels_mean_lem, labels_in_order_lem, labels_are_sound_lem, labels_grow_lem}
 use Rattle.answers.specs.declared.types.Call.TheVariants.{Append}
-use Rattle.answers.specs.declared.types.Answer.TheVariants.{Refused, Number}
+use Rattle.answers.specs.declared.types.Answer.{Answer}
+use Rattle.answers.specs.declared.types.Answer.TheVariants.{Number}
 use Rattle.answers.specs.Tests.{taken, misled}
-use Rattle.answers.specs.Answers.{Ground, or_else, refusal_of, unless}
+use Rattle.answers.specs.Answers.{Ground, or_else, refusal_of, outcome}
 use Rattle.answers.specs.Law.{Founded}
 use Rattle.answers.proofs.Tested.{taken_decides, misled_decides}
 use Rattle.answers.proofs.Telling.{label_told}
-use Rattle.runs.specs.Meant.{ground, AppendRefused, Meant}
+use Rattle.monitor.specs.Book.{ground}
+use Rattle.runs.specs.Meant.{AppendRefused, Meant}
 
 pub founded : (table : List Formula) (rules : List Rule) (room : ℕ) → Founded (ground table rules room)
 founded table rules room =
@@ -33,7 +35,7 @@ founded table rules room =
     }
 
 -- ── Refusals of an append ──
-refusal_is : (o : Option Refusal) (n : ℕ) (why : Refusal) → unless o (Number n) ≡ Refused why → o ≡ Some why
+refusal_is : (o : Option Refusal) (n : ℕ) (why : Refusal) → ◌≡◌ {A = Result Answer Refusal} (outcome o (Number n)) (Err why) → o ≡ Some why
 refusal_is (Some r) n why e = let z : r ≡ why = cc in ap Some z
 refusal_is None n why e = let z : ◌≡◌ {A = ℕ} 0 1 = cc in absurd (omega arith)
 

@@ -1,27 +1,18 @@
 -- What the answers of a monitor mean, and what one call of it changes.
-use Rattle.std.specs.Prelude.{◌≡◌, ℕ, ◌<◌, ◌≤◌, cond, List, length, Ok, Err, Result, ◌==◌}
-use Rattle.logic.specs.declared.types.Formula.{Formula}
-use Rattle.logic.specs.declared.types.Rule.{Rule}
+use Rattle.std.specs.Prelude.{◌≡◌, ℕ, ◌<◌, ◌≤◌, cond, List, length, Ok, Err, ◌==◌}
 use Rattle.logic.specs.declared.types.State.{State}
 use Rattle.logic.specs.States.{Trace, state_at, Begins}
 use Rattle.logic.specs.Lawful.{Lawful}
 use Rattle.logic.specs.Logic.{Reads as ReadsAs, weak, strong}
-use Rattle.logic.specs.Tables.{tree, loose}
 use Rattle.refusals.specs.declared.Refusal.{Refusal}
 use Rattle.refusals.specs.declared.Refusal.TheVariants as refusal
 use Rattle.lawful.specs.Unlawful.{MayNotFollow}
 use Rattle.expectations.specs.declared.types.Verdict.{Verdict}
-use Rattle.growth.specs.Growth.{labels_of}
 use Rattle.growth.specs.Laws.{Right}
 use Rattle.answers.specs.declared.types.Call.{Call}
 use Rattle.answers.specs.declared.types.Call.TheVariants.{Append, LabelAt}
-use Rattle.answers.specs.declared.types.Answer.{Answer}
-use Rattle.answers.specs.declared.types.Answer.TheVariants.{Refused, Reads}
+use Rattle.answers.specs.declared.types.Answer.TheVariants.{Reads}
 use Rattle.answers.specs.Answers.{Ground, told, after}
-
--- what a monitor over a table with its rules stands on, with a record of the capacity
-abbrev pub ground : List Formula → List Rule → (capacity : ℕ) → Ground
-ground table rules n = record { trees = tree table; labelled = labels_of table; formulas = length table; loose = loose table; rules = rules; capacity = n }
 
 -- why an append is refused after the accepted states xs
 abbrev pub AppendRefused : Ground → List State → State → Refusal → Type 0
@@ -39,18 +30,13 @@ AppendRefused G xs x refusal.NoSuchPoint = ⊥
 -- What the answers over the accepted states xs mean: a verdict is true, false or unknown by the weak and the strong reading of
 -- its formula, and an append is refused for what its refusal says.
 pub record Meant (G : Ground) (xs : List State) : Type 0 where
-  pub verdicts : (f i c : ℕ) (v : Verdict) → told G xs (LabelAt f i c) ≡ Reads v →
+  pub verdicts : (f i c : ℕ) (v : Verdict) → told G xs (LabelAt f i c) ≡ Ok (Reads v) →
       Right v (ReadsAs weak (state_at xs) c 0 i (G.trees f)) (ReadsAs strong (state_at xs) c 0 i (G.trees f))
-  pub appends : (x : State) (why : Refusal) → told G xs (Append x) ≡ Refused why → AppendRefused G xs x why
+  pub appends : (x : State) (why : Refusal) → told G xs (Append x) ≡ Err why → AppendRefused G xs x why
 
 -- the states of the record after one call of a monitor that has counted `own` states
 abbrev pub grown_to : (own : ℕ) → Ground → List State → Call → List State
 grown_to own G xs call = cond (own == length xs) (after G xs call) xs
-
--- the answer of one call, as a case of all answers
-abbrev pub as_answer : {A : Type 0} → (A → Answer) → Result A Refusal → Answer
-as_answer f (Ok v) = f v
-as_answer f (Err why) = Refused why
 
 -- some lawful endless trace begins with the states, so what is said of all of them is not empty
 abbrev pub GoesOn : List State → Type 0

@@ -1,15 +1,13 @@
 ghost use Rattle.std.specs.Prelude.{◌≡◌, ℕ, ◌<◌, ◌≤◌, true, [], length, drop, is_ok, Ok, Err, ◌≢◌};
 ghost use Rattle.refusals.specs.declared.Refusal.TheVariants.{ForeignRecord, MemoryTooShort};
 ghost use Rattle.table.specs.Tables.{formulas_of, rules_of};
-ghost use Rattle.answers.specs.declared.types.Answer.TheVariants.{Number, Reads, Stands, Counts};
-ghost use Rattle.answers.specs.Answers.{replied, told_notice};
+ghost use Rattle.answers.specs.Answers.{replied};
 ghost use Rattle.answers.specs.Law.{Ran, Judged};
-ghost use Rattle.monitor.specs.Book.{Faithful, ground_of};
+ghost use Rattle.monitor.specs.Book.{ground, ground_of};
 ghost use Rattle.monitor.specs.Whole.{WholeAnswered, Agrees};
-ghost use Rattle.runs.specs.Meant.{as_answer, ground, grown_to, Meant, GoesOn};
+ghost use Rattle.runs.specs.Meant.{grown_to, Meant, GoesOn};
 
 use answers::types::{Answer, Call};
-use expectations::types::{Notice, Standing, Tally, Verdict};
 use labels::LabelKind;
 use monitor::live::Monitor;
 use records::growing::Growing;
@@ -17,75 +15,34 @@ use records::readable::Readable;
 use refusals::Refusal;
 use table::finished::Table;
 
-// The answers of the calls, as cases of one type.
-fn numbered(r: Result<usize, Refusal>) -> Answer
-    ensures { result ≡ as_answer Number r }
-{
-    match r {
-        Ok(number) => Answer::Number(number),
-        Err(refusal) => Answer::Refused(refusal),
-    }
-}
-
-fn read(r: Result<Verdict, Refusal>) -> Answer
-    ensures { result ≡ as_answer Reads r }
-{
-    match r {
-        Ok(verdict) => Answer::Reads(verdict),
-        Err(refusal) => Answer::Refused(refusal),
-    }
-}
-
-fn stood(r: Result<Standing, Refusal>) -> Answer
-    ensures { result ≡ as_answer Stands r }
-{
-    match r {
-        Ok(standing) => Answer::Stands(standing),
-        Err(refusal) => Answer::Refused(refusal),
-    }
-}
-
-fn counted(r: Result<Tally, Refusal>) -> Answer
-    ensures { result ≡ as_answer Counts r }
-{
-    match r {
-        Ok(tally) => Answer::Counts(tally),
-        Err(refusal) => Answer::Refused(refusal),
-    }
-}
-
-fn noticed(r: Result<Option<Notice>, Refusal>) -> Answer
-    ensures { result ≡ as_answer told_notice r }
-{
-    match r {
-        Ok(Some(notice)) => Answer::Tells(notice),
-        Ok(None) => Answer::NoMore,
-        Err(refusal) => Answer::Refused(refusal),
-    }
-}
-
 // One call of a monitor, with its answer.
-pub fn reply<R: Growing>(monitor: &mut Monitor<R>, call: Call) -> Answer
-    ensures told { Faithful (R.Readable.states monitor.old.log) monitor.old.book → result ≡ replied monitor.old.book.count (ground_of monitor.old.book (R.Growing.room monitor.old.log)) (R.Readable.states monitor.old.log) call }
+pub fn reply<R: Growing>(monitor: &mut Monitor<R>, call: Call) -> Result<Answer, Refusal>
+    ensures told { result ≡ replied monitor.old.book.count (ground_of monitor.old.book (R.Growing.room monitor.old.log)) (R.Readable.states monitor.old.log) call }
     ensures states { R.Readable.states monitor.new.log ≡ grown_to monitor.old.book.count (ground_of monitor.old.book (R.Growing.room monitor.old.log)) (R.Readable.states monitor.old.log) call }
     ensures foreign { (monitor.old.book.count ≢ length (R.Readable.states monitor.old.log)) → monitor.new ≡ monitor.old }
-    ensures counted { Faithful (R.Readable.states monitor.old.log) monitor.old.book → monitor.old.book.count ≡ length (R.Readable.states monitor.old.log) → monitor.new.book.count ≡ length (R.Readable.states monitor.new.log) }
+    ensures counted { monitor.old.book.count ≡ length (R.Readable.states monitor.old.log) → monitor.new.book.count ≡ length (R.Readable.states monitor.new.log) }
     ensures table { monitor.new.book.table ≡ monitor.old.book.table }
     ensures room { R.Growing.room monitor.new.log ≡ R.Growing.room monitor.old.log }
-    ensures faithful { Faithful (R.Readable.states monitor.old.log) monitor.old.book → Faithful (R.Readable.states monitor.new.log) monitor.new.book }
 {
     match call {
-        Call::Append(state) => numbered(monitor.append(state)),
-        Call::LabelAt(formula, state, point) => read(monitor.label(formula, state, point)),
-        Call::StandingAt(rule, state, point) => stood(monitor.standing(rule, state, point)),
-        Call::TallyOf(rule) => counted(monitor.tally(rule)),
-        Call::NoticeOf(point, k) => noticed(monitor.notice(point, k)),
+        Call::Append(state) => monitor.append(state).map(Answer::Number),
+        Call::LabelAt(formula, state, point) => monitor
+            .label(formula, state, point)
+            .map(Answer::Reads),
+        Call::StandingAt(rule, state, point) => monitor
+            .standing(rule, state, point)
+            .map(Answer::Stands),
+        Call::TallyOf(rule) => monitor.tally(rule).map(Answer::Counts),
+        Call::NoticeOf(point, k) => monitor.notice(point, k).map(Answer::Tells),
     }
 }
 
 // Carries out the calls of a list in order, on a new monitor.
-fn reply_all<R: Growing>(monitor: &mut Monitor<R>, calls: &[Call], answers: &mut [Answer])
-    requires faithful { Faithful (R.Readable.states monitor.old.log) monitor.old.book }
+fn reply_all<R: Growing>(
+    monitor: &mut Monitor<R>,
+    calls: &[Call],
+    answers: &mut [Result<Answer, Refusal>],
+)
     requires fresh { monitor.old.book.count ≡ 0 }
     requires memory { length calls.now ≤ length answers.old }
     ensures ran { Ran (ground_of monitor.old.book (R.Growing.room monitor.old.log)) (R.Readable.states monitor.old.log) calls.now answers.new (R.Readable.states monitor.new.log) }
@@ -95,8 +52,8 @@ fn reply_all<R: Growing>(monitor: &mut Monitor<R>, calls: &[Call], answers: &mut
     ensures table { monitor.new.book.table ≡ monitor.old.book.table }
     ensures room { R.Growing.room monitor.new.log ≡ R.Growing.room monitor.old.log }
 {
-    for k in 0..calls.len() {
-        answers[k] = reply(monitor, calls[k]);
+    for (k, call) in calls.iter().enumerate() {
+        answers[k] = reply(monitor, *call);
     }
 }
 
@@ -115,7 +72,7 @@ pub fn run<K: LabelKind + Copy, R: Growing>(
     table: Table,
     log: R,
     calls: &[Call],
-    answers: &mut [Answer],
+    answers: &mut [Result<Answer, Refusal>],
     labels: &mut [K],
     work: &mut [K],
 ) -> Outcome<R>

@@ -12,7 +12,8 @@ use Rattle.monitor.proofs.Wholes.{foreign_whole}
 use Rattle.logic.specs.States.{state_at}
 use Rattle.logic.specs.Lawful.{LawfulRecord}
 use Rattle.logic.proofs.Beginnings.{lawful_goes_on_lem}
-use Rattle.runs.specs.Meant.{ground, Meant, GoesOn}
+use Rattle.monitor.specs.Book.{ground}
+use Rattle.runs.specs.Meant.{Meant, GoesOn}
 use Rattle.runs.proofs.Founding.{founded, meant, empty}
 use Rattle.runs.proofs.run.run.Goals as goal
 
@@ -73,11 +74,11 @@ returns g c =
       foreign = λ h.
           let some : 0 < length (states first.log) = subst (λ (l : g.row.R.Denot). 0 < length (states l)) (sym new.log) h in
           let same = all.foreign some in
-          let fresh : last.book.count ≡ 0 = ap (λ (m : Monitor g.row.R.Denot). m.book.count) same ∙ new.fresh in
+          let fresh : last.book.count ≡ 0 = ap (λ (m : Monitor g.row.R.Denot g.R.Growing g.R.Readable). m.book.count) same ∙ new.fresh in
           let apart : last.book.count ≡ length ends → ⊥ =
-          subst (λ (m : Monitor g.row.R.Denot). m.book.count ≡ length (states m.log) → ⊥) (sym same) (λ e. omega (arith, new.fresh)) in
+          subst (λ (m : Monitor g.row.R.Denot g.R.Growing g.R.Readable). m.book.count ≡ length (states m.log) → ⊥) (sym same) (λ e. omega (arith, new.fresh)) in
           let whole = foreign_whole g.K.LabelKind.reads g.K.LabelKind.reach last.book.count (formulas_of last.book.table.draft) ends c.args.labels.now c.args.work.now c.label_record-labelled.new.labels c.label_record-labelled.new.work c.label_record-labelled.result apart c.label_record-labelled.ensures.whole in
-          (ap (λ (m : Monitor g.row.R.Denot). m.log) same ∙ new.log, fresh, whole.1, whole.2, (λ _. whole.0));
+          (ap (λ (m : Monitor g.row.R.Denot g.R.Growing g.R.Readable). m.log) same ∙ new.log, fresh, whole.1, whole.2, (λ _. whole.0));
       judged = λ e.
           subst (Judged G) (sym (said.own_record e).0)
           (judged G (founded (formulas_of t.draft) (rules_of t.draft) (room log)) (accepted G [] calls) (accepted_lawful G [] calls nothing_lawful) (accepted_small G [] calls (omega arith)));

@@ -9,4 +9,4 @@ count_one-requires c =
     (omega arith, (omega arith, (omega arith, omega arith)))
 
 pub loop-s-preserved : goal.loop-s-preserved
-loop-s-preserved c = tallied_more (held c.args.self.now) c.args.rule c.args.self.now.count c.loop-s.s _ _ _ (omega arith) c.loop-s.invariant c.standing-standing.ensures c.count_one.ensures
+loop-s-preserved c = tallied_more (held c.args.self.now) c.args.rule c.args.self.now.count c.loop-s.s _ _ _ (omega arith) c.loop-s.invariant c.standing.ensures c.count_one.ensures
