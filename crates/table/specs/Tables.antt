@@ -58,7 +58,11 @@ FirstDefect formulas rules why =
     (((k : ℕ) × (k < length rules) × InOrder formulas (take k rules) × RuleDefect formulas k (slice_index_or rules k no_rule) why) ⊎
     (InOrder formulas rules × ((length formulas ≡ 0) ⊎ (length rules ≡ 0)) × (why ≡ OutOfRange)))
 
--- a table of exactly these formulas and rules, or their first defect; a table if they are in order and neither list is empty
+-- the formulas and rules make a table: they are in order, and there is at least one of each
+abbrev pub MakesTable : List Formula → List Rule → Type 0
+MakesTable formulas rules = InOrder formulas rules × (0 < length formulas) × (0 < length rules)
+
+-- a table of exactly these formulas and rules, or their first defect
 abbrev pub Made : List Formula → List Rule → Result Table Defect → Type 0
 Made formulas rules (Ok t) = (formulas_of t.draft ≡ formulas) × (rules_of t.draft ≡ rules)
 Made formulas rules (Err why) = FirstDefect formulas rules why

@@ -1,7 +1,7 @@
 // Tables under construction: formulas and rules are added one by one, and refused where they break the order.
-ghost use Rattle.std.specs.Prelude.{◌≡◌, ℕ, ◌<◌, ◌≤◌, Bool, true, false, List, [], ◌∷◌, ◌++◌, length, Decides, slice_index_or};
+ghost use Rattle.std.specs.Prelude.{◌≡◌, ℕ, ◌<◌, ◌≤◌, Bool, true, false, List, [], ◌∷◌, ◌++◌, length, Decides, IsOk, ◌↔◌, slice_index_or};
 ghost use Rattle.logic.specs.Tables.{InRange, EachPart, Orderly, loose_by, loose};
-ghost use Rattle.table.specs.Tables.{number as number_of, formulas_of, rules_of, FormulaAdded, RuleAdded, Finished};
+ghost use Rattle.table.specs.Tables.{number as number_of, formulas_of, rules_of, FormulaAdded, RuleAdded, Finished, Made, MakesTable};
 
 use crate::defects::Defect;
 use crate::draft::Draft;
@@ -130,5 +130,22 @@ impl Draft {
             return Err(Defect::OutOfRange);
         }
         Ok(Table { draft: *self })
+    }
+}
+
+impl Table {
+    // The table of these formulas and rules, in the order of their numbers, if they make one, and otherwise their first defect.
+    pub fn of(formulas: &[Formula], rules: &[Rule]) -> Result<Table, Defect>
+        ensures made { Made formulas.now rules.now result }
+        ensures possible { IsOk result ↔ MakesTable formulas.now rules.now }
+    {
+        let mut draft = Draft::new();
+        for formula in formulas {
+            draft.add_formula(*formula)?;
+        }
+        for rule in rules {
+            draft.add_rule(*rule)?;
+        }
+        draft.finish()
     }
 }
