@@ -1,13 +1,12 @@
 -- What a list of changes makes, and what a change record means.
-use Rattle.std.specs.Prelude.{ℕ, List, [], ◌∷◌, length, take, bit_xor}
+use Rattle.std.specs.Prelude.{ℕ, List, [], ◌∷◌, length, take, fold, bit_xor}
 use Rattle.logic.specs.declared.types.State.{State}
 use Rattle.records.specs.declared.change.Change.{Change}
 use Rattle.records.specs.declared.change_record.ChangeRecord.{ChangeRecord}
 
 -- the signals after a list of changes, from those before it: each change turns the signals that differ
 abbrev pub signals_after_lem : (before : ℕ) → List Change → ℕ
-signals_after_lem before [] = before
-signals_after_lem before (c ∷ cs) = signals_after_lem (bit_xor before c.differing) cs
+signals_after_lem before cs = fold (λ s c. bit_xor s c.differing) before cs
 
 -- the state that a change makes, from the signals before it
 abbrev pub changed : (before : ℕ) → Change → State

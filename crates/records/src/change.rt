@@ -3,11 +3,11 @@ ghost use Rattle.std.specs.Prelude.{◌≡◌, [], ◌∷◌, ◌++◌};
 ghost use Rattle.logic.specs.States.{state_at};
 ghost use Rattle.records.specs.Changed.{signals_after_lem, replayed};
 
-use crate::readable::{BLANK, NO_REFERENCE};
+use crate::readable::BLANK;
 use logic::types::{Reference, State};
 
 // The signals in which a state differs from the one before it, and what else it carries.
-#[derive(Drop, Clone, Copy)]
+#[derive(Drop, Clone, Copy, PartialEq, Eq, Debug, Default)]
 pub struct Change {
     pub differing: u32,
     pub nominal: u8,
@@ -15,50 +15,32 @@ pub struct Change {
     pub second: Reference,
 }
 
-// No signal differs, and nothing is carried.
-pub(crate) const NO_CHANGE: Change = Change {
-    differing: 0,
-    nominal: 0,
-    first: NO_REFERENCE,
-    second: NO_REFERENCE,
-};
-
 // State i of those that the changes make.
+#[tactic(auto, using(crate::proofs::Replays::made_past, crate::proofs::Replays::made_last))]
 pub(crate) fn state_made(changes: &[Change], i: usize) -> State
     ensures { result ≡ state_at (replayed 0 changes.now) i }
 {
-    if i == 0 || changes.len() < i {
-        return BLANK;
-    }
-    let Change {
-        nominal,
-        first,
-        second,
-        ..
-    } = changes[i - 1];
-    State {
-        signals: signals_after(&changes[..i]),
-        nominal,
-        first,
-        second,
+    match changes.get(..i) {
+        Some(made @ [.., change]) => State {
+            signals: signals_after(made),
+            nominal: change.nominal,
+            first: change.first,
+            second: change.second,
+        },
+        Some([]) | None => BLANK,
     }
 }
 
 // The change that makes the state, where it follows on the changes before.
+#[tactic(auto, using(crate::proofs::Replays::made_back))]
 pub(crate) fn change_to(state: State, before: &[Change]) -> Change
     ensures { replayed 0 (before.now ++ result ∷ []) ≡ replayed 0 before.now ++ state ∷ [] }
 {
-    let State {
-        signals,
-        nominal,
-        first,
-        second,
-    } = state;
     Change {
-        differing: signals_after(before) ^ signals,
-        nominal,
-        first,
-        second,
+        differing: signals_after(before) ^ state.signals,
+        nominal: state.nominal,
+        first: state.first,
+        second: state.second,
     }
 }
 
@@ -66,9 +48,7 @@ pub(crate) fn change_to(state: State, before: &[Change]) -> Change
 fn signals_after(changes: &[Change]) -> u32
     ensures { result ≡ signals_after_lem 0 changes.now }
 {
-    let mut signals = 0;
-    for change in changes {
-        signals ^= change.differing;
-    }
-    signals
+    changes
+        .iter()
+        .fold(0, |signals, change| signals ^ change.differing)
 }

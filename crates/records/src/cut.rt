@@ -1,8 +1,7 @@
 // A record that stands over another one and means its first states.
 ghost use Rattle.std.specs.Prelude.{◌≡◌, take};
 
-use crate::firsts::{count_within, number_within};
-use crate::readable::Readable;
+use crate::readable::{BLANK, Readable};
 use logic::types::State;
 
 // The first `limit` states of the record below, or all of them if there are fewer.
@@ -24,10 +23,14 @@ impl<R: Readable> Readable for CutRecord<R> {
     ghost states = { λ s. take s.limit (R.Readable.states s.lower) };
 
     fn count(&self) -> usize {
-        count_within(self.limit, self.lower.count())
+        self.lower.count().min(self.limit)
     }
 
     fn state(&self, i: usize) -> State {
-        self.lower.state(number_within(self.limit, i))
+        if i <= self.limit {
+            self.lower.state(i)
+        } else {
+            BLANK
+        }
     }
 }

@@ -6,7 +6,7 @@ use crate::readable::Readable;
 use logic::types::State;
 
 // The one refusal of an append: as many states are held as there is room for.
-#[derive(Drop, Clone, Copy)]
+#[derive(Drop, Clone, Copy, PartialEq, Eq, Debug)]
 pub struct Full;
 
 // A record with room for a number of states, which never changes.

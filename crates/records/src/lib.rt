@@ -4,7 +4,6 @@
 mod change;
 pub mod change_record;
 pub mod cut;
-mod firsts;
 pub mod growing;
 pub mod readable;
 pub mod rows;

@@ -5,7 +5,7 @@ ghost use Rattle.logic.specs.declared.types.State.{State};
 
 use logic::types::{Reference, State};
 
-// What a record answers for a state that it does not hold.
+// What a record answers for a state that it does not hold. It equals `State::default()`, which a const cannot call.
 pub const BLANK: State = State {
     signals: 0,
     nominal: 0,
@@ -13,6 +13,7 @@ pub const BLANK: State = State {
     second: NO_REFERENCE,
 };
 
+// A const too, for the consts that are made of it.
 pub const NO_REFERENCE: Reference = Reference { kind: 0, target: 0 };
 
 // A record means a list of states, numbered from 1. A state that it does not hold reads as all zeros.

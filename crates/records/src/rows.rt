@@ -1,6 +1,5 @@
 // A record over rows that are all filled; it does not grow.
 ghost use Rattle.std.specs.Prelude.{◌≡◌};
-ghost use Rattle.logic.specs.States.{state_at};
 
 use crate::readable::{BLANK, Readable};
 use logic::types::State;
@@ -26,17 +25,9 @@ impl<'a> Readable for Rows<'a> {
     }
 
     fn state(&self, i: usize) -> State {
-        state_of(self.rows, i)
-    }
-}
-
-// State i of the states in `rows`, which are numbered from 1.
-pub(crate) fn state_of(rows: &[State], i: usize) -> State
-    ensures { result ≡ state_at rows.now i }
-{
-    if i == 0 || rows.len() < i {
-        BLANK
-    } else {
-        rows[i - 1]
+        i.checked_sub(1)
+            .and_then(|k| self.rows.get(k))
+            .copied()
+            .unwrap_or(BLANK)
     }
 }

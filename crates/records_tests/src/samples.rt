@@ -20,17 +20,6 @@ pub fn sample(i: u8) -> State {
     }
 }
 
-pub fn same(a: State, b: State) -> bool {
-    a.signals == b.signals
-        && a.nominal == b.nominal
-        && same_reference(a.first, b.first)
-        && same_reference(a.second, b.second)
-}
-
-fn same_reference(a: Reference, b: Reference) -> bool {
-    a.kind == b.kind && a.target == b.target
-}
-
 // Appends the first samples to an empty record: it accepts as many as its capacity, and refuses the others.
 pub fn fills<R: Growing>(rt: &impl Abort, record: &mut R, times: u8) {
     let capacity = record.capacity();
@@ -45,10 +34,10 @@ pub fn fills<R: Growing>(rt: &impl Abort, record: &mut R, times: u8) {
 // The record holds the first n samples and nothing else.
 pub fn holds<R: Readable>(rt: &impl Abort, record: &R, n: u8) {
     assert_eq!(rt; record.count(), usize::from(n));
-    assert!(rt; same(record.state(0), BLANK));
+    assert_eq!(rt; record.state(0), BLANK);
     for i in 0..n {
-        assert!(rt; same(record.state(usize::from(i) + 1), sample(i)));
+        assert_eq!(rt; record.state(usize::from(i) + 1), sample(i));
     }
-    assert!(rt; same(record.state(usize::from(n) + 1), BLANK));
-    assert!(rt; same(record.state(usize::MAX), BLANK));
+    assert_eq!(rt; record.state(usize::from(n) + 1), BLANK);
+    assert_eq!(rt; record.state(usize::MAX), BLANK);
 }

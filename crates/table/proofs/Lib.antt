@@ -1,3 +1,2 @@
-pub mod Orders
-pub mod Tabled
 pub mod Fitting
+pub mod Orders

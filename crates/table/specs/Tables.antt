@@ -1,9 +1,10 @@
 -- What a table holds, and what becomes of it when a formula or a rule is added.
-use Rattle.std.specs.Prelude.{◌≡◌, ℕ, ◌<◌, ◌≤◌, Bool, true, false, ◌⊎◌, List, [], ◌∷◌, ◌++◌, length, take, Ok, Err, Result, slice_index_or}
+use Rattle.std.specs.Prelude.{◌≡◌, ℕ, ◌<◌, ◌≤◌, Bool, ◌⊎◌, List, [], ◌∷◌, ◌++◌, length, take, Ok, Err, Result, slice_index_or}
 use Rattle.logic.specs.declared.types.Formula.{Formula}
 use Rattle.logic.specs.declared.types.Rule.{Rule}
-use Rattle.logic.specs.Tables.{InRange, EachPart, Orderly, OrderlyTable, loose}
-use Rattle.table.specs.Checks.{no_rule}
+use Rattle.logic.specs.declared.types.Formula.TheVariants.{True}
+use Rattle.logic.specs.Tables.{InRange, EachPart, Orderly}
+pub use Rattle.table.specs.Order.{no_rule, NamesFormulas, NamesLoose, Ruled, InOrder}
 use Rattle.table.specs.declared.defects.Defect.{Defect}
 use Rattle.table.specs.declared.defects.Defect.TheVariants.{OutOfRange, PartNotBelow, NoSuchFormula, LooseRule}
 use Rattle.table.specs.declared.draft.Draft.{Draft}
@@ -24,24 +25,6 @@ loose_of d = take d.count d.loose
 
 abbrev pub rules_of : Draft → List Rule
 rules_of d = take d.rule_count d.rules
-
--- a rule may join the formulas: it names two of them, and neither is loose
-abbrev pub NamesFormulas : List Formula → Rule → Type 0
-NamesFormulas formulas rule = (rule.condition < length formulas) × (rule.content < length formulas)
-
-abbrev pub NamesLoose : List Formula → Rule → Type 0
-NamesLoose formulas rule = (loose formulas rule.condition ≡ true) ⊎ (loose formulas rule.content ≡ true)
-
-abbrev pub Ruled : List Formula → Rule → Type 0
-Ruled formulas rule =
-    NamesFormulas formulas rule × (loose formulas rule.condition ≡ false) × (loose formulas rule.content ≡ false)
-
--- the formulas and rules of a table are in order
-pub record InOrder (formulas : List Formula) (rules : List Rule) : Type 0 where
-  pub few : length formulas ≤ 64
-  pub orderly : OrderlyTable formulas
-  pub short : length rules ≤ 16
-  pub ruled : (r : ℕ) → r < length rules → Ruled formulas (slice_index_or rules r no_rule)
 
 -- why a formula may not be the next one, after n formulas: the first refusal that fits
 abbrev pub FormulaDefect : (n : ℕ) → Formula → Defect → Type 0
@@ -67,6 +50,22 @@ abbrev pub RuleAdded : Draft → Rule → Result ℕ Defect → Draft → Type 0
 RuleAdded d rule (Ok k) e =
     (k ≡ length (rules_of d)) × (k < 16) × Ruled (formulas_of d) rule × (rules_of e ≡ rules_of d ++ rule ∷ []) × (formulas_of e ≡ formulas_of d)
 RuleAdded d rule (Err why) e = RuleDefect (formulas_of d) (length (rules_of d)) rule why × (e ≡ d)
+
+-- the first defect of a table with these formulas and rules, where the formulas join one by one, and then the rules
+abbrev pub FirstDefect : List Formula → List Rule → Defect → Type 0
+FirstDefect formulas rules why =
+    ((k : ℕ) × (k < length formulas) × InOrder (take k formulas) [] × FormulaDefect k (slice_index_or formulas k True) why) ⊎
+    (((k : ℕ) × (k < length rules) × InOrder formulas (take k rules) × RuleDefect formulas k (slice_index_or rules k no_rule) why) ⊎
+    (InOrder formulas rules × ((length formulas ≡ 0) ⊎ (length rules ≡ 0)) × (why ≡ OutOfRange)))
+
+-- the formulas and rules make a table: they are in order, and there is at least one of each
+abbrev pub MakesTable : List Formula → List Rule → Type 0
+MakesTable formulas rules = InOrder formulas rules × (0 < length formulas) × (0 < length rules)
+
+-- a table of exactly these formulas and rules, or their first defect
+abbrev pub Made : List Formula → List Rule → Result Table Defect → Type 0
+Made formulas rules (Ok t) = (formulas_of t.draft ≡ formulas) × (rules_of t.draft ≡ rules)
+Made formulas rules (Err why) = FirstDefect formulas rules why
 
 -- a table is finished as it stands, or refused for want of a formula or a rule
 abbrev pub Finished : Draft → Result Table Defect → Type 0

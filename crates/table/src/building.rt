@@ -1,7 +1,7 @@
 // Tables under construction: formulas and rules are added one by one, and refused where they break the order.
-ghost use Rattle.std.specs.Prelude.{◌≡◌, ℕ, ◌<◌, ◌≤◌, Bool, true, false, List, [], ◌∷◌, ◌++◌, length, Decides, slice_index_or};
+ghost use Rattle.std.specs.Prelude.{◌≡◌, ℕ, ◌<◌, ◌≤◌, Bool, true, false, List, [], ◌∷◌, ◌++◌, length, Decides, IsOk, ◌↔◌, slice_index_or};
 ghost use Rattle.logic.specs.Tables.{InRange, EachPart, Orderly, loose_by, loose};
-ghost use Rattle.table.specs.Tables.{number as number_of, formulas_of, rules_of, Ruled, FormulaAdded, RuleAdded, Finished};
+ghost use Rattle.table.specs.Tables.{number as number_of, formulas_of, rules_of, FormulaAdded, RuleAdded, Finished, Made, MakesTable};
 
 use crate::defects::Defect;
 use crate::draft::Draft;
@@ -15,8 +15,7 @@ impl Defect {
     {
         match self {
             Defect::OutOfRange => 3,
-            Defect::PartNotBelow => 4,
-            Defect::NoSuchFormula => 4,
+            Defect::PartNotBelow | Defect::NoSuchFormula => 4,
             Defect::LooseRule => 5,
         }
     }
@@ -27,10 +26,8 @@ fn in_range(formula: Formula) -> bool
 {
     match formula {
         Formula::Signal(b) => b < 32,
-        Formula::Nominal(a) => a > 0,
-        Formula::At(a, _) => a > 0,
-        Formula::Reference(kind) => kind > 0 && kind <= 15,
-        Formula::Some(kind, _) => kind > 0 && kind <= 15,
+        Formula::Nominal(a) | Formula::At(a, _) => a > 0,
+        Formula::Reference(kind) | Formula::Some(kind, _) => (1..=15).contains(&kind),
         _ => true,
     }
 }
@@ -39,21 +36,20 @@ fn parts_below(formula: Formula, n: usize) -> bool
     ensures { Decides result (EachPart (λ g. g < n) formula) }
 {
     match formula {
-        Formula::True => true,
-        Formula::Signal(_) => true,
-        Formula::Nominal(_) => true,
-        Formula::Not(a) => a < n,
-        Formula::And(a, b) => a < n && b < n,
-        Formula::Or(a, b) => a < n && b < n,
-        Formula::Next(a) => a < n,
-        Formula::Previous(a) => a < n,
-        Formula::Until(a, b) => a < n && b < n,
-        Formula::Since(a, b) => a < n && b < n,
-        Formula::At(_, a) => a < n,
-        Formula::Variable => true,
-        Formula::Reference(_) => true,
-        Formula::Bind(a) => a < n,
-        Formula::Some(_, a) => a < n,
+        Formula::And(a, b) | Formula::Or(a, b) | Formula::Until(a, b) | Formula::Since(a, b) => a
+            < n
+            && b < n,
+        Formula::Not(a)
+        | Formula::Next(a)
+        | Formula::Previous(a)
+        | Formula::At(_, a)
+        | Formula::Bind(a)
+        | Formula::Some(_, a) => a < n,
+        Formula::True
+        | Formula::Signal(_)
+        | Formula::Nominal(_)
+        | Formula::Variable
+        | Formula::Reference(_) => true,
     }
 }
 
@@ -63,54 +59,31 @@ fn is_loose(formula: Formula, flags: &[bool]) -> bool
     ensures { result ≡ loose_by formula (λ g. slice_index_or flags.now g false) }
 {
     match formula {
-        Formula::True => false,
-        Formula::Signal(_) => false,
-        Formula::Nominal(_) => false,
-        Formula::Not(a) => flags[a],
-        Formula::And(a, b) => flags[a] || flags[b],
-        Formula::Or(a, b) => flags[a] || flags[b],
-        Formula::Next(a) => flags[a],
-        Formula::Previous(a) => flags[a],
-        Formula::Until(a, b) => flags[a] || flags[b],
-        Formula::Since(a, b) => flags[a] || flags[b],
-        Formula::At(_, a) => flags[a],
-        Formula::Variable => true,
-        Formula::Reference(_) => true,
-        Formula::Bind(_) => false,
-        Formula::Some(_, _) => false,
+        Formula::And(a, b) | Formula::Or(a, b) | Formula::Until(a, b) | Formula::Since(a, b) =>
+            flags[a] || flags[b],
+        Formula::Not(a) | Formula::Next(a) | Formula::Previous(a) | Formula::At(_, a) => flags[a],
+        Formula::Variable | Formula::Reference(_) => true,
+        Formula::True
+        | Formula::Signal(_)
+        | Formula::Nominal(_)
+        | Formula::Bind(_)
+        | Formula::Some(_, _) => false,
     }
 }
 
 impl Draft {
     // A table under construction, without formulas and rules.
+    #[tactic(auto, using(crate::proofs::Orders::none_orderly, crate::proofs::Orders::none_ruled))]
     pub fn new() -> Draft
         ensures { (formulas_of result ≡ []) × (rules_of result ≡ []) }
     {
-        let none = Rule {
-            condition: 0,
-            content: 0,
-        };
         Draft {
             formulas: [Formula::True; 64],
             loose: [false; 64],
             count: 0,
-            rules: [none; 16],
+            rules: [Rule::default(); 16],
             rule_count: 0,
         }
-    }
-
-    // Writes a formula after the last one.
-    fn push_formula(&mut self, formula: Formula)
-        requires room { self.old.count < 64 }
-        requires orderly { Orderly self.old.count formula }
-        ensures formulas { formulas_of self.new ≡ formulas_of self.old ++ formula ∷ [] }
-        ensures rules { rules_of self.new ≡ rules_of self.old }
-    {
-        let k = self.count;
-        let flag = is_loose(formula, &self.loose[0..k]);
-        self.formulas[k] = formula;
-        self.loose[k] = flag;
-        self.count = k + 1;
     }
 
     // Adds a formula and answers its number.
@@ -124,30 +97,10 @@ impl Draft {
         if !parts_below(formula, k) {
             return Err(Defect::PartNotBelow);
         }
-        self.push_formula(formula);
+        self.loose[k] = is_loose(formula, &self.loose[..k]);
+        self.formulas[k] = formula;
+        self.count += 1;
         Ok(k)
-    }
-}
-
-impl Draft {
-    // Whether formula f, which is there, is loose.
-    fn is_flagged(&self, f: usize) -> bool
-        requires { f < length (formulas_of self.now) }
-        ensures { result ≡ loose (formulas_of self.now) f }
-    {
-        self.loose[f]
-    }
-
-    // Writes a rule after the last one.
-    fn push_rule(&mut self, rule: Rule)
-        requires room { self.old.rule_count < 16 }
-        requires named { Ruled (formulas_of self.old) rule }
-        ensures rules { rules_of self.new ≡ rules_of self.old ++ rule ∷ [] }
-        ensures formulas { formulas_of self.new ≡ formulas_of self.old }
-    {
-        let k = self.rule_count;
-        self.rules[k] = rule;
-        self.rule_count = k + 1;
     }
 
     // Adds a rule and answers its number.
@@ -161,10 +114,11 @@ impl Draft {
         if rule.condition >= self.count || rule.content >= self.count {
             return Err(Defect::NoSuchFormula);
         }
-        if self.is_flagged(rule.condition) || self.is_flagged(rule.content) {
+        if self.loose[rule.condition] || self.loose[rule.content] {
             return Err(Defect::LooseRule);
         }
-        self.push_rule(rule);
+        self.rules[k] = rule;
+        self.rule_count += 1;
         Ok(k)
     }
 
@@ -176,5 +130,22 @@ impl Draft {
             return Err(Defect::OutOfRange);
         }
         Ok(Table { draft: *self })
+    }
+}
+
+impl Table {
+    // The table of these formulas and rules, in the order of their numbers, if they make one, and otherwise their first defect.
+    pub fn of(formulas: &[Formula], rules: &[Rule]) -> Result<Table, Defect>
+        ensures made { Made formulas.now rules.now result }
+        ensures possible { IsOk result ↔ MakesTable formulas.now rules.now }
+    {
+        let mut draft = Draft::new();
+        for formula in formulas {
+            draft.add_formula(*formula)?;
+        }
+        for rule in rules {
+            draft.add_rule(*rule)?;
+        }
+        draft.finish()
     }
 }

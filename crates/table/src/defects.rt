@@ -1,5 +1,5 @@
 // Why a formula or a rule may not join a table.
-#[derive(Drop, Clone, Copy)]
+#[derive(Drop, Clone, Copy, PartialEq, Eq, Debug)]
 pub enum Defect {
     // A number is out of its range, or there are too many or too few.
     OutOfRange,

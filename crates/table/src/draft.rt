@@ -1,9 +1,11 @@
-ghost use Rattle.std.specs.Prelude.{◌≡◌, ◌≤◌, true, length};
-ghost use Rattle.table.specs.Checks.{orderly_to, ruled_to};
+ghost use Rattle.std.specs.Prelude.{◌≡◌, ◌≤◌, length, take};
+ghost use Rattle.logic.specs.Tables.{OrderlyTable, Flagged};
+ghost use Rattle.table.specs.Order.{EachRuled, OrderlyTable-prop};
 
 use logic::types::{Formula, Rule};
 
-// A table under construction: up to 64 formulas, of which each is flagged if it is loose, and up to 16 rules.
+// A table under construction: up to 64 formulas, of which each is flagged if it is loose, and up to 16 rules. The memory is
+// fixed, without a heap. The flags stand beside the formulas, since callers are lent each as a slice of its own.
 #[derive(Drop, Clone, Copy)]
 pub struct Draft {
     pub(crate) formulas: [Formula; 64],
@@ -16,6 +18,7 @@ pub struct Draft {
     ghost long: { length rules ≡ 16 },
     ghost few: { count ≤ 64 },
     ghost some: { rule_count ≤ 16 },
-    ghost orderly: { orderly_to count formulas loose ≡ true },
-    ghost ruled: { ruled_to rule_count count rules loose ≡ true },
+    ghost orderly: { OrderlyTable (take count formulas) } by { OrderlyTable-prop (take count formulas) },
+    ghost flagged: { Flagged (take count formulas) loose count },
+    ghost ruled: { EachRuled (take count formulas) (take rule_count rules) },
 }

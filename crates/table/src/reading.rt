@@ -3,35 +3,8 @@ ghost use Rattle.std.specs.Prelude.{◌≡◌, ◌<◌, length};
 ghost use Rattle.logic.specs.Tables.{Flagged};
 ghost use Rattle.table.specs.Tables.{formulas_of, loose_of, rules_of, InOrder};
 
-use crate::draft::Draft;
 use crate::finished::Table;
 use logic::types::{Formula, Rule};
-
-impl Draft {
-    fn formula_rows(&self) -> &[Formula]
-        ensures list { result.now ≡ formulas_of self.now }
-        ensures count { length (formulas_of self.now) ≡ self.now.count }
-        ensures order { InOrder (formulas_of self.now) (rules_of self.now) }
-    {
-        &self.formulas[0..self.count]
-    }
-
-    fn rule_rows(&self) -> &[Rule]
-        ensures list { result.now ≡ rules_of self.now }
-        ensures count { length (rules_of self.now) ≡ self.now.rule_count }
-        ensures order { InOrder (formulas_of self.now) (rules_of self.now) }
-    {
-        &self.rules[0..self.rule_count]
-    }
-
-    fn loose_flags(&self) -> &[bool]
-        ensures list { result.now ≡ loose_of self.now }
-        ensures count { length result.now ≡ length (formulas_of self.now) }
-        ensures flagged { Flagged (formulas_of self.now) result.now (length result.now) }
-    {
-        &self.loose[0..self.count]
-    }
-}
 
 impl Table {
     // The formulas, in the order of their numbers: at least one, and all of them in order.
@@ -40,7 +13,7 @@ impl Table {
         ensures some { 0 < length result.now }
         ensures order { InOrder result.now (rules_of self.now.draft) }
     {
-        self.draft.formula_rows()
+        &self.draft.formulas[..self.draft.count]
     }
 
     // For each formula, whether it is loose.
@@ -49,7 +22,7 @@ impl Table {
         ensures count { length result.now ≡ length (formulas_of self.now.draft) }
         ensures flagged { Flagged (formulas_of self.now.draft) result.now (length result.now) }
     {
-        self.draft.loose_flags()
+        &self.draft.loose[..self.draft.count]
     }
 
     // The rules, in the order of their numbers: at least one, and all of them in order.
@@ -58,6 +31,6 @@ impl Table {
         ensures some { 0 < length result.now }
         ensures order { InOrder (formulas_of self.now.draft) result.now }
     {
-        self.draft.rule_rows()
+        &self.draft.rules[..self.draft.rule_count]
     }
 }
