@@ -17,7 +17,8 @@ use Rattle.answers.specs.Answers.{Ground, refusal_of}
 use Rattle.watch_lib.specs.declared.lines.Line.{Line}
 use Rattle.watch_lib.specs.declared.lines.Line.TheVariants.{Told, Refused, End}
 use Rattle.watch_lib.specs.Laws.{OneOutput}
-use Rattle.watch_lib.specs.Watched.{ground, point_lines, Reaches, none, more, NotTaken, Closes, Traced, too_long, unruled, traced}
+use Rattle.monitor.specs.Book.{ground}
+use Rattle.watch_lib.specs.Watched.{point_lines, Reaches, none, more, NotTaken, Closes, Traced, too_long, unruled, traced}
 use Rattle.watch_lib.proofs.Walks.{Walk, here, walk_more, Stuck, one_end}
 
 -- where a reading of trace lines stands: the accepted states, the text that is left, and the lines so far

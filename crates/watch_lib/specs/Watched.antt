@@ -3,7 +3,6 @@ use Rattle.std.specs.Prelude.{◌≡◌, ℕ, ◌+◌, ◌<◌, ◌≤◌, ◌�
 use Rattle.logic.specs.declared.types.Formula.{Formula}
 use Rattle.logic.specs.declared.types.Rule.{Rule}
 use Rattle.logic.specs.declared.types.State.{State}
-use Rattle.logic.specs.Tables.{tree, loose}
 use Rattle.faults.specs.declared.line.LineFault.{LineFault}
 use Rattle.faults.specs.declared.read.ReadFault.{ReadFault}
 use Rattle.faults.specs.Refusals.{of_line, refusal}
@@ -14,20 +13,14 @@ use Rattle.traces.specs.Traces.{trace_kind}
 use Rattle.rulestexts.specs.Texts.{Whole}
 use Rattle.rulestexts.specs.Texts as rulesText
 use Rattle.expectations.specs.Expectations.{notices}
-use Rattle.growth.specs.Growth.{labels_of}
 use Rattle.answers.specs.declared.types.Call.TheVariants.{Append}
 use Rattle.answers.specs.Answers.{Ground, refusal_of}
-use Rattle.monitor.specs.declared.book.Book.{Book}
-use Rattle.monitor.specs.Book.{Right}
+use Rattle.monitor.specs.Book.{ground}
 use Rattle.watch_lib.specs.declared.lines.Line.{Line}
 use Rattle.watch_lib.specs.declared.lines.Line.TheVariants.{Told, Refused, End}
 use Rattle.watch_lib.specs.Stops.{of_stop}
 use Rattle.watch_lib.specs.Sums.{summed}
 use Rattle.watch_lib.specs.declared.stops.Stop.{Stop}
-
--- what a monitor over a table with its rules stands on, with a record of the capacity
-abbrev pub ground : List Formula → List Rule → (capacity : ℕ) → Ground
-ground table rules n = record { trees = tree table; labelled = labels_of table; formulas = length table; loose = loose table; rules = rules; capacity = n }
 
 -- the notices of the last of the states xs, a line each
 abbrev pub point_lines : Ground → List State → List Line
@@ -76,11 +69,6 @@ pub data Watched (input : List ℕ) (lines : List Line) : Type 0 where
       → Traced (ground formulas rules 256) (drop used input) (length formulas + length rules + 3) lines → Watched input lines
 
 -- ── what the parts of the program do ──
-
--- a monitor's memory is right of the states xs
-pub record Ready (xs : List State) (b : Book) : Type 0 where
-  pub own : b.count ≡ length xs
-  pub right : Right xs b
 
 -- a line is taken, with the state in it and its count of bytes, or not, with the number of what is told
 abbrev pub Steps : Ground → List State → (text : List ℕ) → Result ℕ Stop → List State → Type 0

@@ -7,4 +7,5 @@ mod points;
 mod steps;
 mod stops;
 pub mod watch;
+mod watcher;
 pub mod written;

@@ -1,69 +1,56 @@
 // One trace line after another.
 ghost use Rattle.std.specs.Prelude.{◌≡◌, ◌+◌, ◌≤◌, [], length, IfOk};
-ghost use Rattle.monitor.specs.Book.{ground_of, rules_in};
-ghost use Rattle.watch_lib.specs.Watched.{Ready, Steps, Traced};
+ghost use Rattle.monitor.specs.Book.{ground_of};
+ghost use Rattle.watch_lib.specs.Watched.{Steps, Traced};
 
-use crate::ends::end_line;
 use crate::lines::Line;
-use crate::points::tell_point;
 use crate::stops::Stop;
-use monitor::live::Monitor;
+use crate::watcher::Watcher;
 use records::growing::Growing;
 use records::readable::Readable;
 use std::alloc::{AllocError, Global};
 use traces::states::read_state;
 
-// Appends the state of the text's first line, and answers the bytes of the line, or why it is not taken.
-pub(crate) fn take_line<R: Growing>(
-    monitor: &mut Monitor<R>,
-    text: &[u8],
-    count: usize,
-) -> Result<usize, Stop>
-    requires ready { Ready (R.Readable.states monitor.old.log) monitor.old.book }
-    requires count { count ≡ length (R.Readable.states monitor.old.log) }
-    ensures steps { Steps (ground_of monitor.old.book (R.Growing.room monitor.old.log)) (R.Readable.states monitor.old.log) text.now result (R.Readable.states monitor.new.log) }
-    ensures bytes { IfOk result (λ used. (1 ≤ used) × (used ≤ length text.now) × (length (R.Readable.states monitor.new.log) ≡ count + 1)) }
-    ensures ready { Ready (R.Readable.states monitor.new.log) monitor.new.book }
-    ensures table { monitor.new.book.table ≡ monitor.old.book.table }
-    ensures room { R.Growing.room monitor.new.log ≡ R.Growing.room monitor.old.log }
-{
-    let line = read_state(text, count)?;
-    monitor.append(line.state)?;
-    Ok(line.used)
-}
+impl<R: Growing> Watcher<R> {
+    // Appends the state of the text's first line, and answers the bytes of the line, or why it is not taken.
+    fn take_line(&mut self, text: &[u8]) -> Result<usize, Stop>
+        ensures steps { Steps (ground_of self.old.monitor.book (R.Growing.room self.old.monitor.log)) (R.Readable.states self.old.monitor.log) text.now result (R.Readable.states self.new.monitor.log) }
+        ensures bytes { IfOk result (λ used. (1 ≤ used) × (used ≤ length text.now) × (length (R.Readable.states self.new.monitor.log) ≡ length (R.Readable.states self.old.monitor.log) + 1)) }
+        ensures table { self.new.monitor.book.table ≡ self.old.monitor.book.table }
+        ensures room { R.Growing.room self.new.monitor.log ≡ R.Growing.room self.old.monitor.log }
+    {
+        let line = read_state(text, self.monitor.count())?;
+        self.monitor.append(line.state)?;
+        Ok(line.used)
+    }
 
-// The lines of a text of trace lines, the first of which has the number `place`, on a new monitor with so many rules.
-pub(crate) fn follow<R: Growing>(
-    heap: Global,
-    monitor: &mut Monitor<R>,
-    rules: usize,
-    text: &[u8],
-    place: usize,
-) -> Result<Vec<Line>, AllocError>
-    requires ready { Ready (R.Readable.states monitor.old.log) monitor.old.book }
-    requires fresh { R.Readable.states monitor.old.log ≡ [] }
-    requires rules { rules ≡ length (rules_in monitor.old.book) }
-    requires short { rules ≤ 16 }
-    requires small { length text.now ≤ 32768 }
-    requires place { place ≤ 100 }
-    ensures { IfOk result (λ v. Traced (ground_of monitor.old.book (R.Growing.room monitor.old.log)) text.now place v.items) }
-{
-    let mut lines = Vec::new(heap);
-    let mut at = 0;
-    let mut count = 0;
-    while at < text.len() {
-        match take_line(monitor, &text[at..], count) {
-            Ok(used) => {
-                at += used;
-                count += 1;
-                tell_point(monitor, count, &mut lines)?;
-            }
-            Err(stop) => {
-                lines.push(Line::refused(stop, place + count))?;
-                return Ok(lines);
+    // The lines of a text of trace lines, the first of which has the number `place`, after no state.
+    pub(crate) fn follow(
+        &mut self,
+        heap: Global,
+        text: &[u8],
+        place: usize,
+    ) -> Result<Vec<Line>, AllocError>
+        requires fresh { R.Readable.states self.old.monitor.log ≡ [] }
+        requires small { length text.now ≤ 32768 }
+        requires place { place ≤ 100 }
+        ensures { IfOk result (λ v. Traced (ground_of self.old.monitor.book (R.Growing.room self.old.monitor.log)) text.now place v.items) }
+    {
+        let mut lines = Vec::new(heap);
+        let mut rest = text;
+        while !rest.is_empty() {
+            match self.take_line(rest) {
+                Ok(used) => {
+                    rest = &rest[used..];
+                    self.tell_point(self.monitor.count(), &mut lines)?;
+                }
+                Err(stop) => {
+                    lines.push(Line::refused(stop, place + self.monitor.count()))?;
+                    return Ok(lines);
+                }
             }
         }
+        lines.push(self.end_line())?;
+        Ok(lines)
     }
-    lines.push(end_line(monitor, count, rules))?;
-    Ok(lines)
 }

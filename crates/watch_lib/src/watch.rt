@@ -2,12 +2,12 @@
 ghost use Rattle.std.specs.Prelude.{◌≡◌, ◌+◌, ◌≤◌, [], ◌∷◌, length, drop, IfOk};
 ghost use Rattle.table.specs.Tables.{formulas_of, rules_of};
 ghost use Rattle.watch_lib.specs.Laws.{Only};
-ghost use Rattle.watch_lib.specs.Watched.{ground, Traced, Watched};
+ghost use Rattle.monitor.specs.Book.{ground};
+ghost use Rattle.watch_lib.specs.Watched.{Traced, Watched};
 
 use crate::lines::Line;
-use crate::steps::follow;
+use crate::watcher::Watcher;
 use faults::fault::Fault;
-use monitor::live::Monitor;
 use records::growing::Growing;
 use records::readable::{BLANK, Readable};
 use records::table::TableRecord;
@@ -38,17 +38,8 @@ fn watch_log<R: Growing + Drop>(
     requires small { length input.now ≤ 32768 }
     ensures { IfOk result (λ v. Traced (ground (formulas_of rules.table.draft) (rules_of rules.table.draft) (R.Growing.room log)) (drop rules.used input.now) (length (formulas_of rules.table.draft) + length (rules_of rules.table.draft) + 3) v.items) }
 {
-    let RulesText { table, used } = rules;
-    let formula_count = table.formulas().len();
-    let rule_count = table.rules().len();
-    let mut monitor = Monitor::new(table, log);
-    follow(
-        heap,
-        &mut monitor,
-        rule_count,
-        &input[used..],
-        formula_count + rule_count + 3,
-    )
+    let place = rules.table.formulas().len() + rules.table.rules().len() + 3;
+    Watcher::new(rules.table, log).follow(heap, &input[rules.used..], place)
 }
 
 // The lines of an input that is not too long.

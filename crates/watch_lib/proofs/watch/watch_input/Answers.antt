@@ -1,9 +1,11 @@
-use Rattle.std.proofs.Common.{◌≡◌, ◌+◌, [], ◌∷◌, length, drop, vec_items, ◌∙◌, subst, ap₂}
+use Rattle.std.proofs.Common.{◌≡◌, ◌+◌, [], ◌∷◌, length, drop, vec_items, ap, ◌∙◌, subst}
 use Rattle.std.proofs.lemmas.Result.{IfOk-weaker}
+use Rattle.faults.specs.Refusals.{refusal}
 use Rattle.records.specs.Tabled.{table_room}
 use Rattle.table.specs.Tables.{formulas_of, rules_of}
 use Rattle.watch_lib.specs.declared.lines.Line.TheVariants.{Refused}
-use Rattle.watch_lib.specs.Watched.{ground, Traced, Watched, unruled, traced}
+use Rattle.monitor.specs.Book.{ground}
+use Rattle.watch_lib.specs.Watched.{Traced, Watched, unruled, traced}
 use Rattle.watch_lib.proofs.watch.watch_input.Goals as goal
 
 pub returns-in-Ok : goal.returns-in-Ok
@@ -19,5 +21,5 @@ returns-in-Ok c =
 pub returns-in-Err : goal.returns-in-Err
 returns-in-Err c =
     IfOk-weaker c.only.result _ (λ v. Watched c.args.input.now (vec_items v))
-    (λ v e. unruled c.requires c.in-Err.fault c.in-Err.ensures (e ∙ ap₂ (λ a b. Refused a b ∷ []) c.number.ensures c.line.ensures))
+    (λ v e. unruled c.requires c.in-Err.fault c.in-Err.ensures (e ∙ ap (λ l. l ∷ []) (c.refused.ensures ∙ ap (Refused (refusal c.in-Err.fault).number) c.place.ensures)))
     c.only.ensures

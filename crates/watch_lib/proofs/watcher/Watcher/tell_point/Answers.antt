@@ -6,11 +6,11 @@ use Rattle.growth.specs.Growth.{labels_of}
 use Rattle.monitor.specs.Book.{table_of, rules_in}
 use Rattle.watch_lib.specs.declared.lines.Line.TheVariants.{Told}
 use Rattle.watch_lib.proofs.Telling.{nth_within, pushed, pushed_all}
-use Rattle.watch_lib.proofs.points.tell_point.Goals as goal
+use Rattle.watch_lib.proofs.watcher.Watcher.tell_point.Goals as goal
 
 pub loop-notice-smaller : goal.loop-notice-smaller
 loop-notice-smaller g c =
-    let m = c.args.monitor.now in
+    let m = c.args.self.now.monitor in
     let all : List Notice = notices (labels_of (table_of m.book) (g.R.Readable.states m.log)) (rules_in m.book) c.args.point in
     let k : ℕ = vec_len c.loop-notice.lines - c.len-start.result in
     let hit : slice_get all (c.len.result - c.len-start.result) ≡ Some c.in-Some.notice = sym c.in-Some.ensures in
@@ -20,7 +20,7 @@ loop-notice-smaller g c =
 
 pub loop-notice-preserved : goal.loop-notice-preserved
 loop-notice-preserved g c =
-    let m = c.args.monitor.now in
+    let m = c.args.self.now.monitor in
     let all : List Notice = notices (labels_of (table_of m.book) (g.R.Readable.states m.log)) (rules_in m.book) c.args.point in
     let k : ℕ = vec_len c.loop-notice.lines - c.len-start.result in
     let hit : slice_get all (c.len.result - c.len-start.result) ≡ Some c.in-Some.notice = sym c.in-Some.ensures in
@@ -35,7 +35,7 @@ loop-notice-preserved g c =
 
 pub returns : goal.returns
 returns g c =
-    let m = c.args.monitor.now in
+    let m = c.args.self.now.monitor in
     let all : List Notice = notices (labels_of (table_of m.book) (g.R.Readable.states m.log)) (rules_in m.book) c.args.point in
     let k : ℕ = vec_len c.loop-notice.lines - c.len-start.result in
     let missed : slice_get all (c.len.result - c.len-start.result) ≡ None = sym c.in_default.ensures in

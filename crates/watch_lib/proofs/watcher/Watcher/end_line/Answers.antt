@@ -1,28 +1,32 @@
-use Rattle.std.proofs.Common.{◌≡◌, ◌+◌, ◌*◌, ◌<◌, length, drop, sym, subst, ap₂, arith}
+use Rattle.std.proofs.Common.{◌≡◌, ◌+◌, ◌*◌, ◌<◌, length, drop, sym, subst, ap₂, arith, rules}
 use Rattle.growth.specs.Growth.{labels_of}
 use Rattle.expectations.specs.declared.types.Tally.{Tally}
+use Rattle.expectations.specs.Expectations.{no_tally}
 use Rattle.monitor.specs.Book.{table_of, rules_in}
 use Rattle.watch_lib.specs.declared.lines.Line.TheVariants.{End}
 use Rattle.watch_lib.specs.Sums.{plus, summed, Few}
 use Rattle.watch_lib.proofs.Adding.{few_more, few_sum, none_plus, sum_more, sum_all}
-use Rattle.watch_lib.proofs.ends.end_line.Goals as goal
+use Rattle.watch_lib.proofs.watcher.Watcher.end_line.Goals as goal
 
 pub plus-tally-requires : goal.plus-tally-requires
 plus-tally-requires g c =
-    record { few = few_more (256 * c.loop-k.k) 65536 c.loop-k.tally (omega (arith, c.loop-k-test.true, c.requires.short)) c.loop-k.invariant.1; fewer = c.tally_of.ensures.few }
+    record { few = few_more (256 * c.loop-k.k) 65536 c.loop-k.tally (omega (arith, c.loop-k-test.true, c.args.self.now.few)) c.loop-k.invariant.1; fewer = c.tally_of.ensures.few }
 
 pub loop-k-init : goal.loop-k-init
 loop-k-init g c =
-    (none_plus _, record { raised = omega arith; pending = omega arith; fulfilled = omega arith; violated = omega arith })
+    let xs = g.R.Readable.states c.args.self.now.monitor.log in
+    let all : Tally = summed (labels_of (table_of c.args.self.now.monitor.book) xs) (length xs) (rules_in c.args.self.now.monitor.book) in
+    let zero : c.default-tally.result ≡ no_tally = search rules in
+    rw zero (none_plus all, record { raised = omega arith; pending = omega arith; fulfilled = omega arith; violated = omega arith })
 
 pub loop-k-preserved : goal.loop-k-preserved
 loop-k-preserved g c =
-    let m = c.args.monitor.now in
+    let m = c.args.self.now.monitor in
     let xs = g.R.Readable.states m.log in
     let labels = labels_of (table_of m.book) xs in
     let is = c.plus-tally.ensures in
     let k = c.loop-k.k in
-    let within : k < length (rules_in m.book) = omega (arith, c.loop-k-test.true, c.requires.rules) in
+    let within : k < length (rules_in m.book) = omega (arith, c.loop-k-test.true, c.args.self.now.ruled) in
     let more : 256 * k + 256 ≡ 256 * (k + 1) = omega arith in (
       subst (λ (t : Tally). plus t (summed labels (length xs) (drop (k + 1) (rules_in m.book))) ≡ summed labels (length xs) (rules_in m.book)) (sym is)
           (sum_more labels (length xs) (rules_in m.book) k c.loop-k.tally c.tally_of.result within c.tally_of.ensures.counts c.loop-k.invariant.0),
@@ -31,6 +35,6 @@ loop-k-preserved g c =
 
 pub returns : goal.returns
 returns g c =
-    let m = c.args.monitor.now in
+    let m = c.args.self.now.monitor in
     let xs = g.R.Readable.states m.log in
-    ap₂ End c.requires.states (sum_all (labels_of (table_of m.book) xs) (length xs) (rules_in m.book) c.loop-k.k c.loop-k.tally (omega (arith, c.loop-k-test.false, c.requires.rules)) c.loop-k.invariant.0)
+    ap₂ End c.count.ensures (sum_all (labels_of (table_of m.book) xs) (length xs) (rules_in m.book) c.loop-k.k c.loop-k.tally (omega (arith, c.loop-k-test.false, c.args.self.now.ruled)) c.loop-k.invariant.0)
