@@ -1,4 +1,4 @@
-use Rattle.std.proofs.Common.{◌≡◌, ℕ, ◌+◌, ◌-◌, ◌≤◌, List, ◌∷◌, length, take, drop, sym, ap, ◌∙◌, subst, refl, ⊎_elim, MatchOption, MatchResult, Option, Some, None, ok_or, Result, Ok, Err, arith, length-append, length-drop}
+use Rattle.std.proofs.Common.{◌≡◌, ℕ, ◌+◌, ◌-◌, ◌≤◌, List, ◌∷◌, length, take, drop, sym, ap, ◌∙◌, subst, refl, ◌⊎◌, ⊎_elim, MatchOption, MatchResult, Option, Some, None, ok_or, Result, Ok, Err, arith, length-append, length-drop}
 use Rattle.std.proofs.lemmas.List.{take_rest, drop-drop}
 use Rattle.faults.specs.declared.line.LineFault.{LineFault}
 use Rattle.faults.specs.declared.line.LineFault.TheVariants as fault
@@ -77,18 +77,33 @@ pub holds : {A : Type 0} (N : Type 0) (P : A → Type 0) (o : Option A) (x : A) 
 holds N P o x m e = subst (λ z. MatchOption z N P) e m
 
 -- from what the lines of a kind are judged as to what a text is read as
-pub read_as : (K : Kind) {T : Type 0} (Judgement : List ℕ → Result T LineFault → Type 0) (V : T → K.Value) (text : List ℕ) (place : ℕ) (r : Result (Taken T) LineFault)
-    → ReadsLine Judgement text place r
-    → ((line : List ℕ) (v : T) → Judgement line (Ok v) → TakesLine K line (V v))
-    → ((line : List ℕ) (e : LineFault) → Judgement line (Err e) → RefusesLine K line place e)
-    → MatchResult r (λ a. Takes K text (V a.value) a.used) (λ e. Refuses K text place e)
-read_as K Judgement V text place (Ok a) h ok err =
-    let j = h.answer.0 in taken K text j.line (V a.value) a.used j.first (ok j.line a.value j.judged) h.answer.1
-read_as K Judgement V text place (Err e) h ok err =
-    ⊎_elim
-    (λ (t : (e ≡ fault.Torn place) × Torn text). subst (Refuses K text place) (sym t.0) (refl, t.1))
-    (λ (j : FirstJudged Judgement text (Err e)). refused K text j.line _ place e j.first (err j.line e j.judged))
-    h.answer
+module _ (K : Kind) {T : Type 0} (Judgement : List ℕ → Result T LineFault → Type 0) where
+  refused_as : (text : List ℕ) (place : ℕ) (e : LineFault) → ((line : List ℕ) → Judgement line (Err e) → RefusesLine K line place e)
+      → ((e ≡ fault.Torn place) × Torn text) ⊎ FirstJudged Judgement text (Err e) → Refuses K text place e
+  refused_as text place e err d =
+      ⊎_elim
+      (λ (t : (e ≡ fault.Torn place) × Torn text). subst (Refuses K text place) (sym t.0) (refl, t.1))
+      (λ (j : FirstJudged Judgement text (Err e)). refused K text j.line _ place e j.first (err j.line j.judged))
+      d
+
+  pub read_as : (V : T → K.Value) (text : List ℕ) (place : ℕ) (r : Result (Taken T) LineFault) → ReadsLine Judgement text place r
+      → ((line : List ℕ) (v : T) → Judgement line (Ok v) → TakesLine K line (V v))
+      → ((line : List ℕ) (e : LineFault) → Judgement line (Err e) → RefusesLine K line place e)
+      → MatchResult r (λ a. Takes K text (V a.value) a.used) (λ e. Refuses K text place e)
+  read_as V text place (Ok a) h ok err =
+      let j = h.answer.0 in taken K text j.line (V a.value) a.used j.first (ok j.line a.value j.judged) h.answer.1
+  read_as V text place (Err e) h ok err = refused_as text place e (λ line. err line e) h.answer
+
+  -- the same where the answer is what a value of the kind means
+  pub read_meant : (Means : K.Value → T → Type 0) (text : List ℕ) (place : ℕ) (r : Result (Taken T) LineFault) → ReadsLine Judgement text place r
+      → ((line : List ℕ) (x : T) → Judgement line (Ok x) → (v : K.Value) × TakesLine K line v × Means v x)
+      → ((line : List ℕ) (e : LineFault) → Judgement line (Err e) → RefusesLine K line place e)
+      → MatchResult r (λ a. (v : K.Value) × Takes K text v a.used × Means v a.value) (λ e. Refuses K text place e)
+  read_meant Means text place (Ok a) h ok err =
+      let j = h.answer.0 in
+      let t = ok j.line a.value j.judged in
+      (t.0, taken K text j.line t.0 a.used j.first t.1 h.answer.1, t.2)
+  read_meant Means text place (Err e) h ok err = refused_as text place e (λ line. err line e) h.answer
 
 taken_of : {T : Type 0} → T → ℕ → Taken T
 taken_of v u = record { value = v; used = u }

@@ -1,4 +1,4 @@
-use Rattle.std.proofs.Common.{ℕ, List, [], ◌∷◌, codes, decimal, refl}
+use Rattle.std.proofs.Common.{◌≡◌, ◌∙◌, ℕ, List, [], ◌∷◌, codes, decimal, refl}
 use Rattle.std.specs.List.{AllByRecursion as All}
 use Rattle.logic.specs.declared.types.Rule.{Rule}
 use Rattle.words.specs.Words.{word}
@@ -25,8 +25,8 @@ pub formula_solids : (v : Entry) → formulas.Formed v → All Solid (formula_te
 formula_solids v f = (solid_decimal _ f.number, (solid_word v.operator, (solid_decimal _ f.a, (solid_decimal _ f.b, tt))))
 
 -- a line that breaks off, whatever entry it is held against, is no formula line
-pub no_formula : (line : List ℕ) → ((v : Entry) → formulas.Formed v → Broken line 0 formula_keys (formula_texts v)) → ShowsNone (formulas.formula_kind 0) line
-no_formula line b v f e = broken (b v f) formula_led (formula_solids v f) e
+pub no_formula : (before line : List ℕ) → before ≡ line → ((v : Entry) → formulas.Formed v → Broken before formula_keys (formula_texts v)) → ShowsNone (formulas.formula_kind 0) line
+no_formula before line same b v f e = broken (b v f) formula_led (formula_solids v f) (same ∙ e)
 
 -- ── rule lines ──
 abbrev pub rule_keys : List (List ℕ)
@@ -41,5 +41,5 @@ rule_led = (refl, (refl, tt))
 pub rule_solids : (i : ℕ) (r : Rule) → rules.Formed i r → All Solid (rule_texts i r)
 rule_solids i r f = (solid_decimal _ f.number, (solid_decimal _ f.condition, (solid_decimal _ f.content, tt)))
 
-pub no_rule_line : (line : List ℕ) → ((i : ℕ) (r : Rule) → rules.Formed i r → Broken line 0 rule_keys (rule_texts i r)) → ShowsNone (rules.rule_kind 0) line
-no_rule_line line b v f e = broken (b v.0 v.1 f) rule_led (rule_solids v.0 v.1 f) e
+pub no_rule_line : (before line : List ℕ) → before ≡ line → ((i : ℕ) (r : Rule) → rules.Formed i r → Broken before rule_keys (rule_texts i r)) → ShowsNone (rules.rule_kind 0) line
+no_rule_line before line same b v f e = broken (b v.0 v.1 f) rule_led (rule_solids v.0 v.1 f) (same ∙ e)

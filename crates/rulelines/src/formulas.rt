@@ -1,42 +1,35 @@
-ghost use Rattle.std.specs.Prelude.{◌≡◌, MatchResult};
+ghost use Rattle.std.specs.Prelude.{◌≡◌, MatchOption, MatchResult};
 ghost use Rattle.fields.specs.Kinds.{TakesLine, Refuses, RefusesLine};
-ghost use Rattle.rulelines.specs.Formulas.{formula_kind};
+ghost use Rattle.rulelines.specs.Formulas.{Ranged, formula_kind};
+ghost use Rattle.rulelines.specs.declared.entries.Entry.{Entry};
 ghost use Rattle.rulelines.specs.Meanings.{meaning, FormulaTaken};
 
 use crate::entries::{Entry, entry_of};
 use crate::operands::{formula_of, in_range};
 use faults::line::LineFault;
-use fields::lines::{bytes_of, first_line};
+use fields::lines::{Taken, read_line};
 use logic::types::Formula;
 
-// A formula that was read, and how many bytes its line took.
-#[derive(Drop, Clone, Copy)]
-pub struct FormulaLine {
-    pub formula: Formula,
-    pub used: usize,
+// The formula of an entry, if it has number k and its operator's numbers are in their ranges.
+fn formula_in(entry: Entry, k: usize) -> Option<Formula>
+    ensures { MatchOption result (Ranged k entry → ⊥) (λ φ. Ranged k entry × (φ ≡ meaning entry)) }
+{
+    if entry.number != k as u64 || !in_range(entry.operator, entry.a, entry.b) {
+        return None;
+    }
+    Some(formula_of(entry.operator, entry.a, entry.b))
 }
 
-fn judge(line: &[u8], place: usize, k: usize) -> Result<Entry, LineFault>
-    ensures { MatchResult result (λ v. TakesLine (formula_kind k) line.now v) (λ e. RefusesLine (formula_kind k) line.now place e) }
+fn judge(line: &[u8], place: usize, k: usize) -> Result<Formula, LineFault>
+    ensures { MatchResult result (λ φ. (v : Entry) × TakesLine (formula_kind k) line.now v × (φ ≡ meaning v)) (λ e. RefusesLine (formula_kind k) line.now place e) }
 {
-    let Some(v) = entry_of(line) else {
-        return Err(LineFault::Form(place));
-    };
-    if v.number != k as u64 || !in_range(v.operator, v.a, v.b) {
-        return Err(LineFault::Range(place));
-    }
-    Ok(v)
+    let entry = entry_of(line).ok_or(LineFault::Form(place))?;
+    formula_in(entry, k).ok_or(LineFault::Range(place))
 }
 
 // The formula that the first line of a text shows as number k; `place` is the line's, for a refusal.
-pub fn read_formula(text: &[u8], place: usize, k: usize) -> Result<FormulaLine, LineFault>
-    ensures { MatchResult result (λ a. FormulaTaken text.now k a.formula a.used) (λ e. Refuses (formula_kind k) text.now place e) }
+pub fn read_formula(text: &[u8], place: usize, k: usize) -> Result<Taken<Formula>, LineFault>
+    ensures { MatchResult result (λ a. FormulaTaken text.now k a.value a.used) (λ e. Refuses (formula_kind k) text.now place e) }
 {
-    let line = first_line(text, place)?;
-    let v = judge(line, place, k)?;
-    let formula = formula_of(v.operator, v.a, v.b);
-    Ok(FormulaLine {
-        formula,
-        used: bytes_of(line),
-    })
+    read_line(text, place, |line| judge(line, place, k))
 }

@@ -6,7 +6,7 @@ use logic::types::Formula;
 use words::Operator;
 
 // What one of an operator's two numbers is.
-#[derive(Drop, Clone, Copy)]
+#[derive(Drop, Clone, Copy, PartialEq, Eq, Debug)]
 pub enum Operand {
     Unused,
     Signal,
@@ -47,8 +47,8 @@ fn within(operand: Operand, n: u64) -> bool
     match operand {
         Operand::Unused => n == 0,
         Operand::Signal => n <= 31,
-        Operand::Nominal => n >= 1 && n <= 255,
-        Operand::Kind => n >= 1 && n <= 15,
+        Operand::Nominal => (1..=255).contains(&n),
+        Operand::Kind => (1..=15).contains(&n),
         Operand::Part => n <= NUMBER_LIMIT,
     }
 }
@@ -65,6 +65,7 @@ pub(crate) fn formula_of(operator: Operator, a: u64, b: u64) -> Formula
     requires { (Within (column_a operator) a) × (Within (column_b operator) b) }
     ensures { result ≡ meant operator a b }
 {
+    // The ranges are required, so each cast keeps its number, and no conversion could fail.
     match operator {
         Operator::True => Formula::True,
         Operator::Signal => Formula::Signal(a as u8),

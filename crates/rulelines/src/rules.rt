@@ -3,18 +3,11 @@ ghost use Rattle.fields.specs.Kinds.{Takes, TakesLine, Refuses, RefusesLine, Sho
 ghost use Rattle.rulelines.specs.Rules.{Formed, Ranged, rule_line, rule_kind, rule_of_lem};
 
 use faults::line::LineFault;
-use fields::lines::{bytes_of, first_line};
+use fields::lines::{Taken, read_line};
 use fields::numbers::NUMBER_LIMIT;
-use fields::values::number_under;
-use keys::{Key, RuleKey};
+use fields::values::Fields;
+use keys::RuleKey;
 use logic::types::Rule;
-
-// A rule that was read, and how many bytes its line took.
-#[derive(Drop, Clone, Copy)]
-pub struct RuleLine {
-    pub rule: Rule,
-    pub used: usize,
-}
 
 // The numbers of a rule line, as they stand.
 #[derive(Drop, Clone, Copy)]
@@ -27,16 +20,17 @@ pub(crate) struct Numbers {
 fn numbers_of(line: &[u8]) -> Option<Numbers>
     ensures { MatchOption result (ShowsNone (rule_kind 0) line.now) (λ v. Formed v.number (rule_of_lem v) × (line.now ≡ rule_line v.number (rule_of_lem v))) }
 {
-    let number = number_under(line, 0, Key::Rule(RuleKey::Number))?;
-    let condition = number_under(line, number.to, Key::Rule(RuleKey::When))?;
-    let content = number_under(line, condition.to, Key::Rule(RuleKey::Expect))?;
-    if content.to < line.len() {
+    let mut fields = Fields::of(line);
+    let number = fields.number(RuleKey::Number)?;
+    let condition = fields.number(RuleKey::When)?;
+    let content = fields.number(RuleKey::Expect)?;
+    if !fields.is_at_end() {
         return None;
     }
     Some(Numbers {
-        number: number.number,
-        condition: condition.number,
-        content: content.number,
+        number,
+        condition,
+        content,
     })
 }
 
@@ -48,31 +42,21 @@ fn rule_of(v: Numbers, k: usize) -> Option<Rule>
         return None;
     }
     Some(Rule {
-        condition: v.condition as usize,
-        content: v.content as usize,
+        condition: usize::try_from(v.condition).ok()?,
+        content: usize::try_from(v.content).ok()?,
     })
 }
 
 fn judge(line: &[u8], place: usize, k: usize) -> Result<Rule, LineFault>
     ensures { MatchResult result (λ u. TakesLine (rule_kind k) line.now (k, u)) (λ e. RefusesLine (rule_kind k) line.now place e) }
 {
-    let Some(v) = numbers_of(line) else {
-        return Err(LineFault::Form(place));
-    };
-    match rule_of(v, k) {
-        Some(rule) => Ok(rule),
-        None => Err(LineFault::Range(place)),
-    }
+    let numbers = numbers_of(line).ok_or(LineFault::Form(place))?;
+    rule_of(numbers, k).ok_or(LineFault::Range(place))
 }
 
 // The rule that the first line of a text shows as number k; `place` is the line's, for a refusal.
-pub fn read_rule(text: &[u8], place: usize, k: usize) -> Result<RuleLine, LineFault>
-    ensures { MatchResult result (λ a. Takes (rule_kind k) text.now (k, a.rule) a.used) (λ e. Refuses (rule_kind k) text.now place e) }
+pub fn read_rule(text: &[u8], place: usize, k: usize) -> Result<Taken<Rule>, LineFault>
+    ensures { MatchResult result (λ a. Takes (rule_kind k) text.now (k, a.value) a.used) (λ e. Refuses (rule_kind k) text.now place e) }
 {
-    let line = first_line(text, place)?;
-    let rule = judge(line, place, k)?;
-    Ok(RuleLine {
-        rule,
-        used: bytes_of(line),
-    })
+    read_line(text, place, |line| judge(line, place, k))
 }

@@ -3,6 +3,7 @@ use Rattle.std.specs.Prelude.{◌≡◌, ℕ, ◌+◌, ◌≤◌, ◌⊎◌, Lis
 use Rattle.logic.specs.declared.types.Formula.{Formula}
 use Rattle.logic.specs.declared.types.Rule.{Rule}
 use Rattle.table.specs.declared.draft.Draft.{Draft}
+use Rattle.table.specs.declared.finished.Table.{Table}
 use Rattle.table.specs.Tables.{formulas_of, rules_of, NamesFormulas, NamesLoose, Ruled}
 use Rattle.faults.specs.declared.table.TableFault.{TableFault}
 use Rattle.faults.specs.declared.table.TableFault.TheVariants.{Dangling, Loose}
@@ -10,7 +11,7 @@ use Rattle.faults.specs.declared.read.ReadFault.{ReadFault}
 use Rattle.rulelines.specs.declared.entries.Entry.{Entry}
 use Rattle.rulelines.specs.Meanings.{meaning}
 use Rattle.rulestexts.specs.declared.sections.Section.{Section}
-use Rattle.rulestexts.specs.declared.texts.RulesText.{RulesText}
+use Rattle.fields.specs.declared.lines.Taken.{Taken}
 use Rattle.rulestexts.specs.Blocks.{Begins, Stops}
 use Rattle.rulestexts.specs.Sections.{formula_block, rule_block, Founded}
 
@@ -39,21 +40,21 @@ abbrev pub Refused : (text : List ℕ) → ReadFault → Type 0
 Refused text e = Stops formula_block text 1 e ⊎ RulesStop text e
 
 -- A text is taken as a table with its rules, or refused.
-abbrev pub Reads : List ℕ → Result RulesText ReadFault → Type 0
-Reads text (Ok a) = Whole text (formulas_of a.table.draft) (rules_of a.table.draft) a.used
+abbrev pub Reads : List ℕ → Result (Taken Table) ReadFault → Type 0
+Reads text (Ok a) = Whole text (formulas_of a.value.draft) (rules_of a.value.draft) a.used
 Reads text (Err e) = Refused text e
 
 -- two answers say the same
-abbrev pub Same : Result RulesText ReadFault → Result RulesText ReadFault → Type 0
+abbrev pub Same : Result (Taken Table) ReadFault → Result (Taken Table) ReadFault → Type 0
 Same (Ok a) (Ok b) =
-    (formulas_of a.table.draft ≡ formulas_of b.table.draft) × (rules_of a.table.draft ≡ rules_of b.table.draft) × (a.used ≡ b.used)
+    (formulas_of a.value.draft ≡ formulas_of b.value.draft) × (rules_of a.value.draft ≡ rules_of b.value.draft) × (a.used ≡ b.used)
 Same (Ok a) (Err e) = ⊥
 Same (Err e) (Ok a) = ⊥
 Same (Err e) (Err f) = e ≡ f
 
 -- A text is read in one way only.
 abbrev pub OneReading : Type 0
-OneReading = (text : List ℕ) (r s : Result RulesText ReadFault) → Reads text r → Reads text s → Same r s
+OneReading = (text : List ℕ) (r s : Result (Taken Table) ReadFault) → Reads text r → Reads text s → Same r s
 
 -- ── what the reader's parts answer ──
 pub record FormulasRead (text : List ℕ) (a : Section) (entries : List Entry) : Type 0 where

@@ -18,19 +18,19 @@ pub(crate) fn join_formula(
     requires range { InRange formula }
     ensures { FormulaJoins draft.old formula place result draft.new }
 {
-    match draft.add_formula(formula) {
-        Ok(_) => Ok(()),
-        Err(_) => Err(TableFault::Dangling(place)),
-    }
+    draft
+        .add_formula(formula)
+        .map_err(|_| TableFault::Dangling(place))?;
+    Ok(())
 }
 
 pub(crate) fn join_rule(draft: &mut Draft, rule: Rule, place: usize) -> Result<(), TableFault>
     requires { length (rules_of draft.old) < 16 }
     ensures { RuleJoins draft.old rule place result draft.new }
 {
-    match draft.add_rule(rule) {
-        Ok(_) => Ok(()),
-        Err(Defect::LooseRule) => Err(TableFault::Loose(place)),
-        Err(_) => Err(TableFault::Dangling(place)),
-    }
+    draft.add_rule(rule).map_err(|defect| match defect {
+        Defect::LooseRule => TableFault::Loose(place),
+        _ => TableFault::Dangling(place),
+    })?;
+    Ok(())
 }

@@ -32,14 +32,14 @@ pub(crate) fn read_formulas(text: &[u8]) -> Result<Section, ReadFault>
     let head = read_count(text, 1, CountKey::Formulas, MOST_FORMULAS)?;
     let mut draft = Draft::new();
     let mut at = head.used;
-    for k in 0..head.count {
+    for k in 0..head.value {
         let line = read_formula(&text[at..], k + 2, k)?;
-        join_formula(&mut draft, line.formula, k + 2)?;
+        join_formula(&mut draft, line.value, k + 2)?;
         at += line.used;
     }
     Ok(Section {
         draft,
-        count: head.count,
+        count: head.value,
         used: at,
     })
 }
@@ -53,14 +53,14 @@ pub(crate) fn read_rules(text: &[u8], place: usize, formulas: Draft) -> Result<S
     let head = read_count(text, place, CountKey::Rules, MOST_RULES)?;
     let mut draft = formulas;
     let mut at = head.used;
-    for k in 0..head.count {
+    for k in 0..head.value {
         let line = read_rule(&text[at..], place + 1 + k, k)?;
-        join_rule(&mut draft, line.rule, place + 1 + k)?;
+        join_rule(&mut draft, line.value, place + 1 + k)?;
         at += line.used;
     }
     Ok(Section {
         draft,
-        count: head.count,
+        count: head.value,
         used: at,
     })
 }

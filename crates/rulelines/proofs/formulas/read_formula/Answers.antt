@@ -1,16 +1,8 @@
-use Rattle.std.proofs.lemmas.Result.{err_from_is_err_and}
-use Rattle.fields.proofs.Judged.{refused, taken}
+use Rattle.std.proofs.Common.{rules, ◌≡◌}
+use Rattle.fields.proofs.Judged.{read_meant}
 use Rattle.rulelines.specs.Formulas.{formula_kind}
+use Rattle.rulelines.specs.Meanings.{meaning}
 use Rattle.rulelines.proofs.formulas.read_formula.Goals as goal
 
-pub returns-in_err-v : goal.returns-in_err-v
-returns-in_err-v c =
-    let p = err_from_is_err_and c.from_residual-in_err-v.result c.from_residual-in_err-v.ensures.1 in
-    rw (p.1, p.2) (refused (formula_kind c.args.k) c.args.text.now c.in_ok-line.line.now _ c.args.place _ c.in_ok-line.ensures c.in_err-v.ensures)
-
 pub returns : goal.returns
-returns c = (
-  c.in_ok-v.v,
-  taken (formula_kind c.args.k) c.args.text.now c.in_ok-line.line.now c.in_ok-v.v _ c.in_ok-line.ensures c.in_ok-v.ensures c.bytes_of.ensures,
-  c.formula_of-formula.ensures,
-)
+returns c = read_meant (formula_kind c.args.k) _ (λ v φ. φ ≡ meaning v) c.args.text.now c.args.place c.read_line.result c.read_line.ensures (λ line v j. search rules) (λ line e j. search rules)

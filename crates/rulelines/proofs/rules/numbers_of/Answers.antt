@@ -1,20 +1,22 @@
+use Rattle.std.proofs.Common.{sym, ◌∙◌}
 use Rattle.fields.proofs.Shown.{whole, done, next, later, over, missing}
 use Rattle.rulelines.proofs.Showing.{no_rule_line}
 use Rattle.rulelines.proofs.rules.numbers_of.Goals as goal
 
 pub returns-in_err-condition : goal.returns-in_err-condition
 returns-in_err-condition c =
-    rw c.from_residual-in_err-condition.ensures (no_rule_line c.args.line.now (λ i r f. later c.in_ok-number.ensures.took (missing c.in_err-condition.ensures f.condition)))
+    rw c.from_residual-in_err-condition.ensures (no_rule_line _ c.args.line.now c.of-fields.ensures (λ i r f. later c.in_ok-number.ensures.read.took (missing c.in_err-condition.ensures.read f.condition)))
 
 pub returns-in_err-content : goal.returns-in_err-content
 returns-in_err-content c =
-    rw c.from_residual-in_err-content.ensures (no_rule_line c.args.line.now (λ i r f. later c.in_ok-number.ensures.took (later c.in_ok-condition.ensures.took (missing c.in_err-content.ensures f.content))))
+    rw c.from_residual-in_err-content.ensures (no_rule_line _ c.args.line.now c.of-fields.ensures (λ i r f. later c.in_ok-number.ensures.read.took (later c.in_ok-condition.ensures.read.took (missing c.in_err-content.ensures.read f.content))))
 
-pub returns-then-content-line : goal.returns-then-content-line
-returns-then-content-line c = no_rule_line c.args.line.now (λ i r f. later c.in_ok-number.ensures.took (later c.in_ok-condition.ensures.took (later c.in_ok-content.ensures.took (over c.if-content-line.true))))
+pub returns-then-not-is_at_end : goal.returns-then-not-is_at_end
+returns-then-not-is_at_end c =
+    no_rule_line _ c.args.line.now c.of-fields.ensures (λ i r f. later c.in_ok-number.ensures.read.took (later c.in_ok-condition.ensures.read.took (later c.in_ok-content.ensures.read.took (over (λ e. let b = c.is_at_end.ensures.1 e in cc (b, c.if-not-is_at_end.true))))))
 
 pub returns : goal.returns
 returns c = (
-  record { number = c.in_ok-number.ensures.small; condition = c.in_ok-condition.ensures.small; content = c.in_ok-content.ensures.small },
-  whole (next c.in_ok-number.ensures.took (next c.in_ok-condition.ensures.took (next c.in_ok-content.ensures.took (done c.if-content-line.false)))),
+  record { number = c.in_ok-number.ensures.read.small; condition = c.in_ok-condition.ensures.read.small; content = c.in_ok-content.ensures.read.small },
+  sym c.of-fields.ensures ∙ whole (next c.in_ok-number.ensures.read.took (next c.in_ok-condition.ensures.read.took (next c.in_ok-content.ensures.read.took (done (c.is_at_end.ensures.0 c.if-not-is_at_end.false))))),
 )

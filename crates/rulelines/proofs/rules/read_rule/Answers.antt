@@ -1,14 +1,7 @@
-use Rattle.std.proofs.lemmas.Result.{err_from_is_err_and}
-use Rattle.fields.proofs.Judged.{refused, taken}
+use Rattle.std.proofs.Common.{rules}
+use Rattle.fields.proofs.Judged.{read_as}
 use Rattle.rulelines.specs.Rules.{rule_kind}
 use Rattle.rulelines.proofs.rules.read_rule.Goals as goal
 
-pub returns-in_err-rule : goal.returns-in_err-rule
-returns-in_err-rule c =
-    let p = err_from_is_err_and c.from_residual-in_err-rule.result c.from_residual-in_err-rule.ensures.1 in
-    rw (p.1, p.2) (refused (rule_kind c.args.k) c.args.text.now c.in_ok-line.line.now _ c.args.place _ c.in_ok-line.ensures c.in_err-rule.ensures)
-
 pub returns : goal.returns
-returns c =
-    taken (rule_kind c.args.k) c.args.text.now c.in_ok-line.line.now (c.args.k, c.in_ok-rule.rule)
-    _ c.in_ok-line.ensures c.in_ok-rule.ensures c.bytes_of.ensures
+returns c = read_as (rule_kind c.args.k) _ (λ u. (c.args.k, u)) c.args.text.now c.args.place c.read_line.result c.read_line.ensures (λ line v j. search rules) (λ line e j. search rules)

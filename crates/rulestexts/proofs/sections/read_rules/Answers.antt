@@ -7,14 +7,14 @@ use Rattle.rulestexts.proofs.sections.read_rules.Goals as goal
 pub returns-in_err-line : goal.returns-in_err-line
 returns-in_err-line c =
     let p = err_from_is_err_and c.from_residual-in_err-line.result c.from_residual-in_err-line.ensures.1 in
-    rw (p.1, p.2) (rule_refused c.args.text.now (formulas_of c.args.formulas) c.in_ok-head.head.count c.loop-k.k c.loop-k.at c.loop-k.draft c.loop-k.invariant (omega arith) c.args.place _ c.in_err-line.ensures)
+    rw (p.1, p.2) (rule_refused c.args.text.now (formulas_of c.args.formulas) c.in_ok-head.head.value c.loop-k.k c.loop-k.at c.loop-k.draft c.loop-k.invariant (omega arith) c.args.place _ c.in_err-line.ensures)
 
 pub returns-in_err-join_rule : goal.returns-in_err-join_rule
 returns-in_err-join_rule c =
     let p = err_from_is_err_and c.from_residual-in_err-join_rule.result c.from_residual-in_err-join_rule.ensures.1 in
-    rw (p.1, p.2) (rule_unfit c.args.text.now (formulas_of c.args.formulas) c.in_ok-head.head.count c.loop-k.k c.loop-k.at c.loop-k.draft c.loop-k.invariant (omega arith) c.args.place c.in_ok-line.line.rule c.in_ok-line.line.used _ c.join_rule.new.draft c.in_ok-line.ensures c.in_err-join_rule.ensures)
+    rw (p.1, p.2) (rule_unfit c.args.text.now (formulas_of c.args.formulas) c.in_ok-head.head.value c.loop-k.k c.loop-k.at c.loop-k.draft c.loop-k.invariant (omega arith) c.args.place c.in_ok-line.line.value c.in_ok-line.line.used _ c.join_rule.new.draft c.in_ok-line.ensures c.in_err-join_rule.ensures)
 
 pub loop-k-preserved : goal.loop-k-preserved
 loop-k-preserved c =
-    rules_more c.args.text.now (formulas_of c.args.formulas) c.in_ok-head.head.count c.loop-k.k c.loop-k.at c.loop-k.draft c.loop-k.invariant
-    c.in_ok-line.line.rule c.in_ok-line.line.used (c.args.place + 1 + c.loop-k.k) _ c.in_ok-line.ensures c.in_ok-join_rule.ensures
+    rules_more c.args.text.now (formulas_of c.args.formulas) c.in_ok-head.head.value c.loop-k.k c.loop-k.at c.loop-k.draft c.loop-k.invariant
+    c.in_ok-line.line.value c.in_ok-line.line.used (c.args.place + 1 + c.loop-k.k) _ c.in_ok-line.ensures c.in_ok-join_rule.ensures
