@@ -1,6 +1,7 @@
 // What a monitor answers while its record grows.
 use crate::asks::*;
 use crate::samples::*;
+use expectations::types::{Event, Standing, Verdict};
 use labels::LabelKind;
 use labels::dated::Dated;
 use monitor::live::Monitor;
@@ -11,56 +12,62 @@ use records::table::TableRecord;
 use std::process::Abort;
 use std::test::Fail;
 
-const SECOND: [(usize, usize, &str); 4] = [
-    (0, 1, "fulfilled"),
-    (0, 2, "raised"),
-    (2, 2, "raised"),
-    (2, 2, "fulfilled"),
+const SECOND: [(usize, usize, Event); 4] = [
+    (0, 1, Event::Fulfilling),
+    (0, 2, Event::Raising),
+    (2, 2, Event::Raising),
+    (2, 2, Event::Fulfilling),
 ];
 
 // By rule, then by raising state, a raising before its own decision; later states change nothing.
 fn tells_notices<R: Growing + Drop>(rt: &impl Abort, log: R) -> Result<(), Fail> {
     let mut monitor = watched(rt, log, &[plain(1), plain(3)])?;
-    notes(rt, &monitor, 2, &SECOND)?;
-    accepts(rt, &mut monitor, plain(0))?;
-    accepts(rt, &mut monitor, plain(0))?;
+    notes(rt, &monitor, 2, &SECOND);
+    accepts(rt, &mut monitor, plain(0));
+    accepts(rt, &mut monitor, plain(0));
     notes(
         rt,
         &monitor,
         1,
-        &[(0, 1, "raised"), (2, 1, "raised"), (2, 1, "violated")],
-    )?;
-    notes(rt, &monitor, 2, &SECOND)?;
-    notes(rt, &monitor, 3, &[(0, 2, "violated")])?;
-    notes(rt, &monitor, 4, &[])
+        &[
+            (0, 1, Event::Raising),
+            (2, 1, Event::Raising),
+            (2, 1, Event::Violating),
+        ],
+    );
+    notes(rt, &monitor, 2, &SECOND);
+    notes(rt, &monitor, 3, &[(0, 2, Event::Violating)]);
+    notes(rt, &monitor, 4, &[]);
+    Ok(())
 }
 
 // Signals 0, 1, 2, 3 in turn: what rule 0 expects of states 2, 6 and 10 comes, what it expects of 4 and 8 does not.
 fn tells_tallies<R: Growing + Drop>(rt: &impl Abort, log: R) -> Result<(), Fail> {
     let mut monitor = watched(rt, log, &[])?;
     for i in 0u8..12 {
-        accepts(rt, &mut monitor, plain(u32::from(i % 4)))?;
+        accepts(rt, &mut monitor, plain(u32::from(i % 4)));
         for rule in 0..RULES {
             adds_up(rt, &monitor, rule)?;
         }
     }
-    counts(rt, &monitor, 0, [6, 1, 3, 2])?;
-    counts(rt, &monitor, 1, [0, 0, 0, 0])?;
-    counts(rt, &monitor, 2, [6, 0, 3, 3])
+    counts(rt, &monitor, 0, [6, 1, 3, 2]);
+    counts(rt, &monitor, 1, [0, 0, 0, 0]);
+    counts(rt, &monitor, 2, [6, 0, 3, 3]);
+    Ok(())
 }
 
 // State 1 expects in vain; later states show the signal.
 fn stays_violated<R: Growing + Drop>(rt: &impl Abort, log: R) -> Result<(), Fail> {
     let mut monitor = watched(rt, log, &[plain(1)])?;
-    assert_eq!(rt; standing(&monitor, 0, 1, 1), ("pending", 0));
-    accepts(rt, &mut monitor, plain(0))?;
+    assert_eq!(rt; monitor.standing(0, 1, 1), Ok(Standing::Pending));
+    accepts(rt, &mut monitor, plain(0));
     for last in 2..9 {
-        assert_eq!(rt; standing(&monitor, 0, 1, 1), ("pending", 0));
-        for point in 2..last + 1 {
-            assert_eq!(rt; standing(&monitor, 0, 1, point), ("violated", 2));
+        assert_eq!(rt; monitor.standing(0, 1, 1), Ok(Standing::Pending));
+        for point in 2..=last {
+            assert_eq!(rt; monitor.standing(0, 1, point), Ok(Standing::Violated(2)));
         }
-        counts(rt, &monitor, 0, [1, 0, 0, 1])?;
-        accepts(rt, &mut monitor, plain(2))?;
+        counts(rt, &monitor, 0, [1, 0, 0, 1]);
+        accepts(rt, &mut monitor, plain(2));
     }
     Ok(())
 }
@@ -70,28 +77,27 @@ fn never_raises<R: Growing + Drop>(rt: &impl Abort, log: R) -> Result<(), Fail> 
     let monitor = watched(rt, log, &[plain(1), plain(1), plain(1)])?;
     for state in 1..4 {
         for point in state..4 {
-            assert_eq!(rt; standing(&monitor, 1, state, point), ("not raised", 0));
+            assert_eq!(rt; monitor.standing(1, state, point), Ok(Standing::NotRaised));
         }
     }
-    counts(rt, &monitor, 1, [0, 0, 0, 0])?;
-    counts(rt, &monitor, 0, [3, 1, 0, 2])
+    counts(rt, &monitor, 1, [0, 0, 0, 0]);
+    counts(rt, &monitor, 0, [3, 1, 0, 2]);
+    Ok(())
 }
 
 // Of the states up to the last, both formulas that speak of nominal 1 are decided from a point on and unknown before.
 fn decided_from<R: Growing>(rt: &impl Abort, monitor: &Monitor<R>, date: usize) {
     let last = monitor.record().count();
     assert!(rt; last < 10);
-    for state in 1..last + 1 {
-        for point in state..last + 1 {
-            let known = point >= date;
-            assert_eq!(rt;
-                verdict(monitor, AT_ON, state, point),
-                if known { "true" } else { "unknown" }
-            );
-            assert_eq!(rt;
-                verdict(monitor, AT_OFF, state, point),
-                if known { "false" } else { "unknown" }
-            );
+    for state in 1..=last {
+        for point in state..=last {
+            let (on, off) = if point >= date {
+                (Verdict::True, Verdict::False)
+            } else {
+                (Verdict::Unknown, Verdict::Unknown)
+            };
+            assert_eq!(rt; monitor.label(AT_ON, state, point), Ok(on));
+            assert_eq!(rt; monitor.label(AT_OFF, state, point), Ok(off));
         }
     }
 }
@@ -99,9 +105,9 @@ fn decided_from<R: Growing>(rt: &impl Abort, monitor: &Monitor<R>, date: usize) 
 fn names_late<R: Growing + Drop>(rt: &impl Abort, log: R) -> Result<(), Fail> {
     let mut monitor = watched(rt, log, &[plain(3), plain(0), plain(2), plain(0), plain(2)])?;
     decided_from(rt, &monitor, 6);
-    accepts(rt, &mut monitor, named(1, 1))?;
+    accepts(rt, &mut monitor, named(1, 1));
     decided_from(rt, &monitor, 6);
-    accepts(rt, &mut monitor, plain(2))?;
+    accepts(rt, &mut monitor, plain(2));
     decided_from(rt, &monitor, 6);
     Ok(())
 }
@@ -113,14 +119,11 @@ fn labels_whole<R: Growing + Drop>(rt: &impl Abort, log: R) -> Result<(), Fail> 
     let mut work = [Dated::true_from(9); 21];
     let mut short = [Dated::true_from(9); 20];
     assert_eq!(rt;
-        refusal(monitor.label_record(&mut labels, &mut short)),
-        (9, 0)
+        told(monitor.label_record(&mut labels, &mut short)),
+        Err((9, 0))
     );
     assert_eq!(rt; labels[6].value(), 248);
-    assert_eq!(rt;
-        refusal(monitor.label_record(&mut labels, &mut work)),
-        (0, 0)
-    );
+    assert_eq!(rt; monitor.label_record(&mut labels, &mut work), Ok(3));
     assert_eq!(rt;
         [labels[6].value(), labels[7].value(), labels[8].value()],
         [255, -254, 0]

@@ -1,6 +1,7 @@
 // How many states a monitor takes.
 use crate::asks::*;
 use crate::samples::*;
+use expectations::types::Verdict;
 use logic::types::State;
 use records::change_record::ChangeRecord;
 use records::growing::Growing;
@@ -18,13 +19,16 @@ fn stops<R: Growing + Drop>(
 ) -> Result<(), Fail> {
     let mut monitor = watched(rt, log, &[])?;
     for _ in 0..accepted {
-        accepts(rt, &mut monitor, plain(1))?;
+        accepts(rt, &mut monitor, plain(1));
     }
     assert_eq!(rt; monitor.record().count(), accepted);
     refuses(rt, &mut monitor, plain(1), (number, 0));
     refuses(rt, &mut monitor, referring(16, 0), (number, 0));
     if accepted > 0 {
-        assert_eq!(rt; verdict(&monitor, SIGNAL, accepted, accepted), "true");
+        assert_eq!(rt;
+            monitor.label(SIGNAL, accepted, accepted),
+            Ok(Verdict::True)
+        );
     }
     Ok(())
 }

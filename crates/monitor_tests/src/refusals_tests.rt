@@ -18,14 +18,15 @@ const UNFIT: [(u8, u16); 6] = [(16, 1), (0, 1), (1, 0), (1, 2), (15, 2), (1, 3)]
 fn refuses_references<R: Growing + Drop>(rt: &impl Abort, log: R) -> Result<(), Fail> {
     let mut monitor = watched(rt, log, &[])?;
     refuses(rt, &mut monitor, referring(1, 1), (11, 1));
-    accepts(rt, &mut monitor, plain(1))?;
-    for pair in &UNFIT {
-        refuses(rt, &mut monitor, referring(pair.0, pair.1), (11, 2));
-        refuses(rt, &mut monitor, referring_second(pair.0, pair.1), (11, 2));
+    accepts(rt, &mut monitor, plain(1));
+    for (kind, target) in UNFIT {
+        refuses(rt, &mut monitor, referring(kind, target), (11, 2));
+        refuses(rt, &mut monitor, referring_second(kind, target), (11, 2));
     }
-    counts(rt, &monitor, 0, [1, 1, 0, 0])?;
-    accepts(rt, &mut monitor, referring(15, 1))?;
-    accepts(rt, &mut monitor, referring_second(1, 2))
+    counts(rt, &monitor, 0, [1, 1, 0, 0]);
+    accepts(rt, &mut monitor, referring(15, 1));
+    accepts(rt, &mut monitor, referring_second(1, 2));
+    Ok(())
 }
 
 fn refuses_nominals<R: Growing + Drop>(rt: &impl Abort, log: R) -> Result<(), Fail> {
@@ -37,8 +38,9 @@ fn refuses_nominals<R: Growing + Drop>(rt: &impl Abort, log: R) -> Result<(), Fa
         ..referring(16, 1)
     };
     refuses(rt, &mut monitor, both, (10, 4));
-    counts(rt, &monitor, 0, [1, 0, 0, 1])?;
-    accepts(rt, &mut monitor, named(0, 4))
+    counts(rt, &monitor, 0, [1, 0, 0, 1]);
+    accepts(rt, &mut monitor, named(0, 4));
+    Ok(())
 }
 
 // Each argument just out of its range, and the first refusal that fits.
@@ -59,11 +61,8 @@ fn refuses_queries<R: Growing + Drop>(rt: &impl Abort, log: R) -> Result<(), Fai
         &monitor,
         &[(0, 0, 0, 14), (0, 0, 1, 14), (0, 3, 3, 14), (0, 3, 2, 14)],
     );
-    labels_refused(
-        rt,
-        &monitor,
-        &[(0, 1, 0, 15), (0, 2, 1, 15), (0, 2, 3, 15), (0, 2, 2, 0)],
-    );
+    labels_refused(rt, &monitor, &[(0, 1, 0, 15), (0, 2, 1, 15), (0, 2, 3, 15)]);
+    assert!(rt; monitor.label(0, 2, 2).is_ok());
     standings_refused(
         rt,
         &monitor,
@@ -74,14 +73,11 @@ fn refuses_queries<R: Growing + Drop>(rt: &impl Abort, log: R) -> Result<(), Fai
             (0, 3, 3, 14),
         ],
     );
-    standings_refused(
-        rt,
-        &monitor,
-        &[(0, 1, 0, 15), (0, 2, 1, 15), (0, 2, 3, 15), (2, 2, 2, 0)],
-    );
-    assert_eq!(rt; refusal(monitor.tally(RULES)), (12, 0));
-    assert_eq!(rt; refusal(monitor.notice(0, 0)), (15, 0));
-    assert_eq!(rt; refusal(monitor.notice(3, 0)), (15, 0));
+    standings_refused(rt, &monitor, &[(0, 1, 0, 15), (0, 2, 1, 15), (0, 2, 3, 15)]);
+    assert!(rt; monitor.standing(2, 2, 2).is_ok());
+    assert_eq!(rt; told(monitor.tally(RULES)), Err((12, 0)));
+    assert_eq!(rt; told(monitor.notice(0, 0)), Err((15, 0)));
+    assert_eq!(rt; told(monitor.notice(3, 0)), Err((15, 0)));
     Ok(())
 }
 
@@ -103,11 +99,11 @@ fn starts_empty<R: Growing + Drop>(rt: &impl Abort, log: R) -> Result<(), Fail> 
         &[(RULES, 1, 1, 12), (0, 1, 1, 14), (0, 0, 0, 14)],
     );
     for rule in 0..RULES {
-        counts(rt, &monitor, rule, [0, 0, 0, 0])?;
+        counts(rt, &monitor, rule, [0, 0, 0, 0]);
     }
-    assert_eq!(rt; refusal(monitor.tally(RULES)), (12, 0));
-    assert_eq!(rt; refusal(monitor.notice(0, 0)), (15, 0));
-    assert_eq!(rt; refusal(monitor.notice(1, 0)), (15, 0));
+    assert_eq!(rt; told(monitor.tally(RULES)), Err((12, 0)));
+    assert_eq!(rt; told(monitor.notice(0, 0)), Err((15, 0)));
+    assert_eq!(rt; told(monitor.notice(1, 0)), Err((15, 0)));
     Ok(())
 }
 
@@ -124,14 +120,14 @@ fn refuses_foreign<R: Growing + Drop>(rt: &impl Abort, log: R) -> Result<(), Fai
         &[(0, 1, 1, 6), (FORMULAS, 0, 0, 6), (LOOSE, 1, 1, 6)],
     );
     standings_refused(rt, &monitor, &[(0, 1, 1, 6), (RULES, 0, 0, 6)]);
-    assert_eq!(rt; refusal(monitor.tally(0)), (6, 0));
-    assert_eq!(rt; refusal(monitor.tally(RULES)), (6, 0));
-    assert_eq!(rt; refusal(monitor.notice(1, 0)), (6, 0));
+    assert_eq!(rt; told(monitor.tally(0)), Err((6, 0)));
+    assert_eq!(rt; told(monitor.tally(RULES)), Err((6, 0)));
+    assert_eq!(rt; told(monitor.notice(1, 0)), Err((6, 0)));
     let mut labels = [Dated::true_from(9); 7];
     let mut work = [Dated::true_from(9); 7];
     assert_eq!(rt;
-        refusal(monitor.label_record(&mut labels, &mut work)),
-        (6, 0)
+        told(monitor.label_record(&mut labels, &mut work)),
+        Err((6, 0))
     );
     assert_eq!(rt; monitor.record().state(1).signals, 5);
     Ok(())

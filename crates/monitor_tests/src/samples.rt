@@ -1,6 +1,5 @@
 // The states and the table of the tests.
 use logic::types::{Formula, Reference, Rule, State};
-use records::readable::NO_REFERENCE;
 use std::test::Fail;
 use table::defects::Defect;
 use table::draft::Draft;
@@ -30,31 +29,34 @@ const LIST: [Formula; 7] = [
 ];
 
 // Signal 0 calls for signal 1 at the next state, by rule 0, and at once, by rule 2. The condition of rule 1 looks ahead.
-fn drafted() -> Result<Table, Defect> {
-    let mut draft = Draft::new();
-    for formula in &LIST {
-        let _ = draft.add_formula(*formula)?;
-    }
-    let _ = draft.add_rule(Rule {
+const LIST_OF_RULES: [Rule; RULES] = [
+    Rule {
         condition: 0,
         content: 2,
-    })?;
-    let _ = draft.add_rule(Rule {
+    },
+    Rule {
         condition: 6,
         content: 0,
-    })?;
-    let _ = draft.add_rule(Rule {
+    },
+    Rule {
         condition: 0,
         content: 1,
-    })?;
+    },
+];
+
+fn drafted() -> Result<Table, Defect> {
+    let mut draft = Draft::new();
+    for formula in LIST {
+        draft.add_formula(formula)?;
+    }
+    for rule in LIST_OF_RULES {
+        draft.add_rule(rule)?;
+    }
     draft.finish()
 }
 
 pub fn table() -> Result<Table, Fail> {
-    match drafted() {
-        Ok(table) => Ok(table),
-        Err(_) => Err(Fail::new("no table")),
-    }
+    drafted().map_err(|_| Fail::new("no table"))
 }
 
 pub fn plain(signals: u32) -> State {
@@ -65,21 +67,20 @@ pub fn named(signals: u32, nominal: u8) -> State {
     State {
         signals,
         nominal,
-        first: NO_REFERENCE,
-        second: NO_REFERENCE,
+        ..State::default()
     }
 }
 
 pub fn referring(kind: u8, target: u16) -> State {
     State {
         first: Reference { kind, target },
-        ..plain(0)
+        ..State::default()
     }
 }
 
 pub fn referring_second(kind: u8, target: u16) -> State {
     State {
         second: Reference { kind, target },
-        ..plain(0)
+        ..State::default()
     }
 }
