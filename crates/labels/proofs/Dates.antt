@@ -86,3 +86,12 @@ date_only n f d e p q =
     (λ h. absurd (not_earlier n f d e p q h))
     (λ h. ⊎_elim (λ k. absurd (not_earlier n f e d q p k)) (λ k. omega arith) (cases_lt e d))
     (cases_lt d e)
+
+-- Readings that are the same have the same date.
+pub date_same : (n : ℕ) (f g : Reading) (d : ℕ) → DateOf n g d → Same n g f → DateOf n f d
+date_same n f g d p same = record {
+  within = p.within;
+  holds = λ z. sym (same false d z p.within) ∙ p.holds z;
+  first = λ c z h. let w = p.within in sym (same false c z (omega arith)) ∙ p.first c z h;
+  never = λ z c k h. sym (same false c k h) ∙ p.never z c k h;
+}

@@ -11,7 +11,7 @@ use super::LabelKind;
 const REACH: usize = 256;
 
 // 0 is unknown, 257 - d is true from point d on, and d - 257 is false from point d on.
-#[derive(Drop, Clone, Copy)]
+#[derive(Drop, Clone, Copy, PartialEq, Eq, Debug)]
 pub struct Dated {
     value: i16,
     ghost low: { negsuc 255 ≤ℤ value },
@@ -39,7 +39,10 @@ impl LabelKind for Dated {
         Dated { value: -date(i) }
     }
 
-    fn not(self) -> Dated {
+    fn not(self) -> Dated
+        ensures meaning { Same 256 (dated result.value) (negated (dated self.value)) }
+        ensures number { result.value ≡ neg_ℤ self.value }
+    {
         Dated { value: -self.value }
     }
 
@@ -55,8 +58,12 @@ impl LabelKind for Dated {
         }
     }
 
+    // The value, limited to the range from false to true from point i on.
     fn seen_from(self, i: usize) -> Dated {
-        limited(self, i)
+        let most = date(i);
+        Dated {
+            value: self.value.clamp(-most, most),
+        }
     }
 
     fn length() -> usize {
@@ -98,64 +105,29 @@ impl Dated {
     }
 
     // The point from which the label is false, or 0 if it is false at none.
+    #[tactic(auto, using(crate::proofs::Dates::date_same))]
     pub fn date_of_falsehood(self) -> usize
         ensures ever { self.value <ℤ pos 0 → pos result ≡ self.value +ℤ pos 257 }
         ensures never { pos 0 ≤ℤ self.value → result ≡ 0 }
         ensures meaning { DateOf 256 (negated (dated self.value)) result }
     {
-        if self.value < 0 {
-            (self.value + 257) as usize
-        } else {
-            0
-        }
+        self.not().date_of_truth()
     }
 
     // Whether two labels are the same number. They are if they have the same readings.
+    #[tactic(auto, using(crate::proofs::Dates::number_by_meaning))]
     pub fn equal(self, other: Dated) -> bool
         ensures alike { self.value ≡ other.value → result ≡ true }
         ensures number { result ≡ true → self.value ≡ other.value }
         ensures meaning { Same 256 (dated self.value) (dated other.value) → result ≡ true }
     {
-        same_number(self, other)
+        self == other
     }
-}
-
-// Whether two labels are the same number; they are if they have the same readings.
-fn same_number(a: Dated, b: Dated) -> bool
-    ensures alike { a.value ≡ b.value → result ≡ true }
-    ensures number { result ≡ true → a.value ≡ b.value }
-    ensures meaning { Same 256 (dated a.value) (dated b.value) → result ≡ true }
-{
-    a.value == b.value
-}
-
-// The same from point i on, and unknown before.
-fn limited(label: Dated, i: usize) -> Dated
-    ensures { Same 256 (dated result.value) (seen i (dated label.value)) }
-{
-    let most = date(i);
-    Dated {
-        value: between(label.value, most),
-    }
-}
-
-// The value, limited to the range from -most to most.
-fn between(value: i16, most: i16) -> i16
-    requires { pos 0 ≤ℤ most }
-    ensures { result ≡ int_max (neg_ℤ most) (int_min value most) }
-{
-    value.clamp(-most, most)
 }
 
 // The number of a label that is true from point i on.
 fn date(i: usize) -> i16
     ensures { result ≡ pos (min 256 (257 - i)) }
 {
-    if i == 0 {
-        256
-    } else if i < 257 {
-        257 - i as i16
-    } else {
-        0
-    }
+    257usize.saturating_sub(i).min(256) as i16
 }
