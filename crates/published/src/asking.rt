@@ -3,7 +3,7 @@ ghost use Rattle.std.specs.Prelude.{◌≡◌, length};
 ghost use Rattle.growth.specs.Growth.{labels_of};
 ghost use Rattle.answers.specs.declared.types.Call.TheVariants.{LabelAt};
 ghost use Rattle.answers.specs.Answers.{refused_by, outcome};
-ghost use Rattle.monitor.specs.Book.{Faithful, ground_of, table_of};
+ghost use Rattle.monitor.specs.Book.{ground_of, table_of};
 ghost use Rattle.published.specs.Asking.{dated_at};
 
 use expectations::types::{Label, Verdict};
@@ -29,14 +29,13 @@ pub(crate) fn label_of<R: Growing>(
     formula: usize,
     state: usize,
 ) -> Result<Label, Refusal>
-    ensures { Faithful (R.Readable.states monitor.now.log) monitor.now.book → result ≡ outcome (refused_by monitor.now.book.count (ground_of monitor.now.book (R.Growing.room monitor.now.log)) (R.Readable.states monitor.now.log) (LabelAt formula state (length (R.Readable.states monitor.now.log)))) (labels_of (table_of monitor.now.book) (R.Readable.states monitor.now.log) formula state) }
+    ensures { result ≡ outcome (refused_by monitor.now.book.count (ground_of monitor.now.book (R.Growing.room monitor.now.log)) (R.Readable.states monitor.now.log) (LabelAt formula state (length (R.Readable.states monitor.now.log)))) (labels_of (table_of monitor.now.book) (R.Readable.states monitor.now.log) formula state) }
 {
-    let last = monitor.record().count();
-    let mut point = state;
-    while point < last {
-        match monitor.label(formula, state, point)? {
-            Verdict::Unknown => point += 1,
-            decided => return Ok(dated(decided, point)),
+    let last = monitor.count();
+    for point in state..last {
+        let verdict = monitor.label(formula, state, point)?;
+        if verdict != Verdict::Unknown {
+            return Ok(dated(verdict, point));
         }
     }
     Ok(dated(monitor.label(formula, state, last)?, last))

@@ -7,6 +7,7 @@ mod rows;
 
 use crate::asking::label_of;
 use crate::rows::Row;
+use faults::fault::Fault;
 use monitor::live::Monitor;
 use records::growing::Growing;
 use records::readable::{BLANK, Readable};
@@ -63,14 +64,14 @@ fn print_labels<R: Growing>(
     monitor: &Monitor<R>,
     formula: usize,
 ) -> io::Result<()> {
-    let states = monitor.record().count();
-    for k in 0..states {
-        match label_of(monitor, formula, k + 1) {
+    let states = monitor.count();
+    for state in 1..=states {
+        match label_of(monitor, formula, state) {
             Ok(label) => {
                 let row = Row {
                     states,
                     formula,
-                    state: k + 1,
+                    state,
                     label,
                 };
                 println!(rt; "{name} {row}")?;
@@ -89,11 +90,11 @@ fn follow<R: Growing + Drop>(
     log: TextRecord<'_>,
 ) -> io::Result<()> {
     let last = log.count();
-    for k in 0..last {
-        if let Err(refusal) = monitor.append(log.state(k + 1)) {
+    for state in 1..=last {
+        if let Err(refusal) = monitor.append(log.state(state)) {
             return print_refusal(rt, example.name, refusal);
         }
-        if example.each || k + 1 == last {
+        if example.each || state == last {
             for formula in example.formulas {
                 print_labels(rt, example.name, &monitor, *formula)?;
             }
@@ -109,10 +110,10 @@ fn print_example(rt: &HostRuntime, example: Example) -> io::Result<()> {
     match read_rules_text(text) {
         Ok(rules) => {
             let mut rows = [BLANK; 256];
-            let monitor = Monitor::new(rules.table, TableRecord::new(&mut rows));
+            let monitor = Monitor::new(rules.value, TableRecord::new(&mut rows));
             follow(rt, example, monitor, TextRecord::new(&text[rules.used..]))
         }
-        Err(fault) => println!(rt; "{name} refused={} line={}", fault.number(), fault.line()),
+        Err(fault) => println!(rt; "{name} refused={} line={}", fault.number(), fault.place()),
     }
 }
 

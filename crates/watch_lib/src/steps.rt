@@ -20,7 +20,7 @@ impl<R: Growing> Watcher<R> {
         ensures room { R.Growing.room self.new.monitor.log ≡ R.Growing.room self.old.monitor.log }
     {
         let line = read_state(text, self.monitor.count())?;
-        self.monitor.append(line.state)?;
+        self.monitor.append(line.value)?;
         Ok(line.used)
     }
 

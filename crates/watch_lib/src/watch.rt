@@ -8,12 +8,14 @@ ghost use Rattle.watch_lib.specs.Watched.{Traced, Watched};
 use crate::lines::Line;
 use crate::watcher::Watcher;
 use faults::fault::Fault;
+use fields::lines::Taken;
 use records::growing::Growing;
 use records::readable::{BLANK, Readable};
 use records::table::TableRecord;
 use refusals::Refusal;
-use rulestexts::texts::{RulesText, read_rules_text};
+use rulestexts::texts::read_rules_text;
 use std::alloc::{AllocError, Global};
+use table::finished::Table;
 
 const MOST_BYTES: usize = 32768;
 
@@ -29,17 +31,17 @@ fn only(heap: Global, line: Line) -> Result<Vec<Line>, AllocError>
 // The lines of an input whose rules text was read, over an empty record.
 fn watch_log<R: Growing + Drop>(
     heap: Global,
-    rules: RulesText,
+    rules: Taken<Table>,
     input: &[u8],
     log: R,
 ) -> Result<Vec<Line>, AllocError>
     requires empty { R.Readable.states log ≡ [] }
     requires used { rules.used ≤ length input.now }
     requires small { length input.now ≤ 32768 }
-    ensures { IfOk result (λ v. Traced (ground (formulas_of rules.table.draft) (rules_of rules.table.draft) (R.Growing.room log)) (drop rules.used input.now) (length (formulas_of rules.table.draft) + length (rules_of rules.table.draft) + 3) v.items) }
+    ensures { IfOk result (λ v. Traced (ground (formulas_of rules.value.draft) (rules_of rules.value.draft) (R.Growing.room log)) (drop rules.used input.now) (length (formulas_of rules.value.draft) + length (rules_of rules.value.draft) + 3) v.items) }
 {
-    let place = rules.table.formulas().len() + rules.table.rules().len() + 3;
-    Watcher::new(rules.table, log).follow(heap, &input[rules.used..], place)
+    let place = rules.value.formulas().len() + rules.value.rules().len() + 3;
+    Watcher::new(rules.value, log).follow(heap, &input[rules.used..], place)
 }
 
 // The lines of an input that is not too long.

@@ -10,7 +10,7 @@ use Rattle.watch_lib.proofs.watch.watch_input.Goals as goal
 
 pub returns-in-Ok : goal.returns-in-Ok
 returns-in-Ok c =
-    let d = c.in-Ok.rules.table.draft in
+    let d = c.in-Ok.rules.value.draft in
     let input = c.args.input.now in
     let room : table_room c.new.result ≡ 256 = c.new.ensures.room in
     IfOk-weaker c.watch_log.result _ (λ v. Watched input (vec_items v))
