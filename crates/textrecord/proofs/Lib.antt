@@ -1,3 +1,4 @@
 pub mod Extract
 pub mod Passing
 pub mod Walks
+pub mod Next

@@ -1,36 +1,47 @@
-ghost use Rattle.std.specs.Prelude.{◌≡◌, length};
-ghost use Rattle.logic.specs.States.{state_at};
+ghost use Rattle.std.specs.Prelude.{◌≡◌, slice_get};
 ghost use Rattle.textrecord.specs.Listed.{states_of};
 
 use logic::types::State;
-use records::readable::BLANK;
 use traces::states::read_state;
 
-// How many leading lines pass.
-pub(crate) fn count_states(text: &[u8]) -> usize
-    ensures { result ≡ length (states_of text.now) }
-{
-    let mut at = 0;
-    let mut k = 0;
-    while let Ok(line) = read_state(&text[at..], k) {
-        at += line.used;
-        k += 1;
-    }
-    k
+// The states of a text's leading lines that pass, one after another: each is read after the count of those before it.
+#[derive(Drop)]
+pub(crate) struct States<'a> {
+    text: &'a [u8],
+    count: usize,
 }
 
-// The state of leading line i, counted from 1.
-pub(crate) fn find_state(text: &[u8], i: usize) -> State
-    ensures { result ≡ state_at (states_of text.now) i }
-{
-    let mut at = 0;
-    let mut k = 0;
-    while let Ok(line) = read_state(&text[at..], k) {
-        k += 1;
-        if k == i {
-            return line.state;
-        }
-        at += line.used;
+impl<'a> States<'a> {
+    ghost use Rattle.textrecord.specs.Left.{states_left};
+
+    pub(crate) fn of(text: &'a [u8]) -> States<'a>
+        ensures { states_left result ≡ states_of text.now }
+    {
+        States { text, count: 0 }
     }
-    BLANK
+}
+
+impl<'a> Iterator for States<'a> {
+    ghost use Rattle.std.specs.Iterator.{YieldsFirst, item_count};
+    ghost use Rattle.textrecord.specs.Left.{states_left};
+
+    type Item = State;
+
+    ghost next_gives = { YieldsFirst states_left };
+
+    ghost remaining = { item_count states_left };
+
+    fn next(&mut self) -> Option<State> {
+        let line = read_state(self.text, self.count).ok()?;
+        self.text = &self.text[line.used..];
+        self.count += 1;
+        Some(line.value)
+    }
+}
+
+// The state of the leading line that comes after `before` others.
+pub(crate) fn state_after(text: &[u8], before: usize) -> Option<State>
+    ensures { result ≡ slice_get (states_of text.now) before }
+{
+    States::of(text).nth(before)
 }

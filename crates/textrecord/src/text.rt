@@ -1,9 +1,9 @@
 ghost use Rattle.std.specs.Prelude.{◌≡◌};
 ghost use Rattle.textrecord.specs.Listed.{states_of};
 
-use crate::scans::{count_states, find_state};
+use crate::scans::{States, state_after};
 use logic::types::State;
-use records::readable::Readable;
+use records::readable::{BLANK, Readable};
 
 // A trace text; its states are those of the leading lines that pass, each read after the count of those before it.
 #[derive(Drop, Clone, Copy)]
@@ -23,10 +23,13 @@ impl<'a> Readable for TextRecord<'a> {
     ghost states = { λ s. states_of s.text.now };
 
     fn count(&self) -> usize {
-        count_states(self.text)
+        States::of(self.text).count()
     }
 
     fn state(&self, i: usize) -> State {
-        find_state(self.text, i)
+        let Some(before) = i.checked_sub(1) else {
+            return BLANK;
+        };
+        state_after(self.text, before).unwrap_or(BLANK)
     }
 }
