@@ -1,5 +1,5 @@
 -- The readings of a row's cells. Assumes nothing.
-use Rattle.std.proofs.Common.{◌≡◌, ℕ, zero, suc, ◌<◌, ◌≤◌, Bool, ◌≢◌, List, [], ◌∷◌, length, get_or, set, sym, refl, ap, arith}
+use Rattle.std.proofs.Common.{◌≡◌, ℕ, zero, suc, ◌<◌, ◌≤◌, Bool, ◌≢◌, List, [], ◌∷◌, length, get_or, set, sym, refl, ap, ◌∙◌, arith}
 use Rattle.labels.specs.Readings.{Reading}
 use Rattle.labelling.specs.Rows.{cell}
 
@@ -10,11 +10,14 @@ module _ {K : Type 0} (reads : K → Reading) where
   cell_past (x ∷ xs) zero e c h = absurd (omega arith)
   cell_past (x ∷ xs) (suc p) e c h = cell_past xs p e c (omega arith)
 
-  pub cell_read : (xs : List K) (p : ℕ) (x : K) → p < length xs → x ≡ get_or xs p x → (e : Bool) (c : ℕ) → cell reads xs p e c ≡ reads x e c
+  pub cell_at : (xs : List K) (p : ℕ) (d : K) → p < length xs → (e : Bool) (c : ℕ) → cell reads xs p e c ≡ reads (get_or xs p d) e c
   unfolding cell
-  cell_read [] p x h is e c = absurd (omega arith)
-  cell_read (y ∷ xs) zero x h is e c = ap (λ z. reads z e c) (sym is)
-  cell_read (y ∷ xs) (suc p) x h is e c = cell_read xs p x (omega arith) is e c
+  cell_at [] p d h e c = absurd (omega arith)
+  cell_at (y ∷ xs) zero d h e c = refl
+  cell_at (y ∷ xs) (suc p) d h e c = cell_at xs p d (omega arith) e c
+
+  pub cell_read : (xs : List K) (p : ℕ) (x : K) → p < length xs → x ≡ get_or xs p x → (e : Bool) (c : ℕ) → cell reads xs p e c ≡ reads x e c
+  cell_read xs p x h is e c = cell_at xs p x h e c ∙ ap (λ z. reads z e c) (sym is)
 
   pub cell_same : (xs : List K) (p : ℕ) (x : K) → p < length xs → (e : Bool) (c : ℕ) → cell reads (set xs p x) p e c ≡ reads x e c
   unfolding cell

@@ -40,7 +40,7 @@ module _ (flags : List Bool) where
   grown_one f x a b lx g k = ((g k).0, (λ le. (g k).1 (omega arith)), (g k).2)
 
   pub wanted_grown : (f : ℕ) (a b : List Bool) (x : ℕ) → Grown f flags a b → Wanted flags a x → Wanted flags b x
-  wanted_grown f a b x g w = ⊎_elim inl (λ z. inr ((g x).0 z)) w
+  wanted_grown f a b x g w = λ l. (g x).0 (w l)
 
 module _ (table : List Formula) (orderly : OrderlyTable table) (flags : List Bool) (flagged : Flagged table flags (length table)) (a : ℕ) (within : a < length table) where
   pub cone_start : (old new : List Bool) → ((k : ℕ) → get_or old k false ≡ false) → Grown (a + 1) flags old new → Wanted flags new a → ConeFrom table flags new a (a + 1)
@@ -86,7 +86,7 @@ module _ (table : List Formula) (orderly : OrderlyTable table) (flags : List Boo
   )
 
   ready_from : (now : List Bool) (x : ℕ) → x < length table → Wanted flags now x → Ready table now x
-  ready_from now x lt w = ⊎_elim (λ z. inl (sym (flagged x lt) ∙ z)) inr w
+  ready_from now x lt w = λ l. w (flagged x lt ∙ l)
 
   pub cone_end : (now : List Bool) (k : ℕ) → k ≤ 0 → ConeFrom table flags now a k → Cone table now (length table) × Ready table now a
   cone_end now k none inv = (

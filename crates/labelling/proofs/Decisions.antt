@@ -5,16 +5,12 @@ use Rattle.std.proofs.lemmas.Bool.Decides.{Decides-at, Decides-like}
 use Rattle.labels.specs.Readings.{Reading, fixed}
 use Rattle.logic.specs.Logic.{Kept}
 use Rattle.logic.proofs.Keeps.{kept_in, kept_out, kept_past}
-use Rattle.labelling.specs.Rows.{cell, at, part, Elsewhere}
+use Rattle.labelling.specs.Rows.{cell, at}
 use Rattle.labelling.proofs.Cells.{cell_same, cell_other}
-use Rattle.labelling.proofs.Places.{length_part, part_set, elsewhere_none, elsewhere_more}
 
 -- the labels of the first m states decide G
 abbrev pub DecidedTo : {K : Type 0} → (K → Reading) → (reach : ℕ) → (ℕ → Bool → ℕ → Type 0) → List K → (m : ℕ) → Type 0
 DecidedTo reads reach G xs m = (i : ℕ) (e : Bool) (c : ℕ) → 0 < i → i ≤ m → 0 < c → c ≤ reach → Decides (at reads xs i e c) (G i e c)
-
-abbrev pub DecisionsKept : {K : Type 0} → (K → Reading) → (reach n : ℕ) → (ℕ → Bool → ℕ → Type 0) → (own : ℕ) → List K → List K → ℕ → Type 0
-DecisionsKept reads reach n G own old cells p = Elsewhere own n old cells × DecidedTo reads reach G (part own n cells) p
 
 module _ {K : Type 0} (reads : K → Reading) (reach : ℕ) (G : ℕ → Bool → ℕ → Type 0) where
   pub decided_none : (xs : List K) → DecidedTo reads reach G xs 0
@@ -29,17 +25,6 @@ module _ {K : Type 0} (reads : K → Reading) (reach : ℕ) (G : ℕ → Bool �
       (Decides-at _ _ (ap (λ q. cell reads (set xs t v) q e c) (omega arith) ∙ cell_same reads xs t v fits e c) (is-v e c lo hi)))
       (λ s. Decides-at _ _ (cell_other reads xs t (i - 1) v (λ (z : i - 1 ≡ t). omega arith) e c) (inv i e c pos (omega arith) lo hi))
       (cases_eq i (t + 1))
-
-  pub decisions_start : (n own : ℕ) (old : List K) → DecisionsKept reads reach n G own old old 0
-  decisions_start n own old = (elsewhere_none own n old, decided_none (part own n old))
-
-  pub decisions_turn : (n own : ℕ) (old cells : List K) (t : ℕ) (v : K) → t < n → own + n ≤ length cells → ((e : Bool) (c : ℕ) → 0 < c → c ≤ reach → Decides (reads v e c) (G (t + 1) e c))
-      → DecisionsKept reads reach n G own old cells t → DecisionsKept reads reach n G own old (set cells (own + t) v) (t + 1)
-  decisions_turn n own old cells t v less long is-v inv = (
-    elsewhere_more own n old cells t v less inv.0,
-    subst (λ xs. DecidedTo reads reach G xs (t + 1)) (sym (part_set own n cells t v less))
-        (decided_more (part own n cells) t v (omega (arith, length_part own n cells long)) is-v inv.1),
-  )
 
 -- a label that is decided from state i's own point on
 pub fixed_decides : (n i : ℕ) (b e : Bool) (c : ℕ) (X : Type 0) → i ≤ n → Decides b X → Decides (fixed i b e c) (Kept e (min c n) i X)

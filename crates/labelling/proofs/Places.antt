@@ -1,26 +1,53 @@
 -- Rows in one list of cells. Assumes nothing.
-use Rattle.std.proofs.Common.{◌≡◌, ℕ, ◌+◌, ◌<◌, ◌≤◌, List, length, get_or, take, drop, set, sym, refl, ap, ◌∙◌, arith, length-drop, length-take}
-use lib.Seq.{take-set-lt}
-use Rattle.std.proofs.lemmas.List.{get_or-take, get_or-drop, take-take, take-set-le, drop-set-lt, drop-set-add, drop-take}
-use Rattle.labelling.specs.Rows.{part, Elsewhere}
+use Rattle.std.proofs.Common.{◌≡◌, ℕ, ◌+◌, ◌-◌, ◌*◌, ◌<◌, ◌≤◌, List, [], ◌++◌, length, take, drop, sym, ap, ◌∙◌, ⊎_elim, arith, length-drop, length-take, length-take-le}
+use Rattle.std.proofs.Math.Seq.{drop-append_seam, drop-append-add, take-append_seam}
+use Rattle.std.proofs.lemmas.Bool.{cases_lt}
+use Rattle.std.proofs.lemmas.List.{take-append-le, drop-append-le, take-append-drop}
+use Rattle.std.proofs.lemmas.Slice.{drop-append-drop, drop-put_mid}
+use borrow.Rule.Slice.PartMut.{put_mid, post_of}
+use Rattle.labelling.specs.Rows.{row}
+use Rattle.labelling.proofs.Nodes.{row_below}
 
-module _ {K : Type 0} where
-  pub part_read : (m n : ℕ) (xs : List K) (p : ℕ) (x : K) → p < n → x ≡ get_or xs (m + p) x → x ≡ get_or (part m n xs) p x
-  part_read m n xs p x h is = is ∙ sym (get_or-take n (drop m xs) p x h ∙ get_or-drop m xs p x)
+module _ {K : Type 0} (n : ℕ) where
+  pub length_row : (f : ℕ) (xs : List K) → f * n + n ≤ length xs → length (row n f xs) ≡ n
+  length_row f xs h = simp (length-take, length-drop) (omega arith)
 
-  pub length_part : (m n : ℕ) (xs : List K) → m + n ≤ length xs → length (part m n xs) ≡ n
-  length_part m n xs h = simp (length-take, length-drop) (omega arith)
+  pub row_front : (g : ℕ) (xs ys : List K) → g * n + n ≤ length xs → row n g (xs ++ ys) ≡ row n g xs
+  row_front g xs ys h = ap (take n) (drop-append-le (g * n) xs ys (omega arith)) ∙ take-append-le n (drop (g * n) xs) ys (simp length-drop (omega arith))
 
-  pub part_set : (m n : ℕ) (xs : List K) (p : ℕ) (v : K) → p < n → part m n (set xs (m + p) v) ≡ set (part m n xs) p v
-  part_set m n xs p v h = ap (take n) (drop-set-add m xs p v) ∙ take-set-lt n (drop m xs) p v h
+  -- the cells are those before row f, that row, and the rest
+  module _ (f : ℕ) (low own rest : List K) (before : length low ≡ f * n) (long : length own ≡ n) where
+    pub row_own : (tail : List K) → row n f (low ++ (own ++ tail)) ≡ own
+    row_own tail =
+        ap (λ k. take n (drop k (low ++ (own ++ tail)))) (sym before) ∙ ap (take n) (drop-append_seam low (own ++ tail))
+        ∙ ap (λ k. take k (own ++ tail)) (sym long) ∙ take-append_seam own tail
 
-  -- a row before place w is as it was, where all the cells before w are
-  pub part_front : (m n w : ℕ) (xs ys : List K) → m + n ≤ w → take w ys ≡ take w xs → part m n ys ≡ part m n xs
-  part_front m n w xs ys h same =
-      sym (drop-take m n ys) ∙ ap (drop m) (sym (take-take (m + n) w ys h) ∙ ap (take (m + n)) same ∙ take-take (m + n) w xs h) ∙ drop-take m n xs
+    row_back : (g : ℕ) → f < g → row n g (low ++ (own ++ drop n rest)) ≡ row n g (low ++ rest)
+    row_back g past =
+        let k = g * n - length low in
+        let at : g * n ≡ length low + k = omega (arith, before, row_below f g n past) in
+        let here : (xs : List K) → drop (g * n) (low ++ xs) ≡ drop k xs = λ xs. ap (λ j. drop j (low ++ xs)) at ∙ drop-append-add low xs k in
+        ap (take n) (here (own ++ drop n rest) ∙ drop-append-drop n rest own k (omega (arith, before, row_below f g n past)) long ∙ sym (here rest))
 
-  pub elsewhere_none : (m n : ℕ) (xs : List K) → Elsewhere m n xs xs
-  elsewhere_none m n xs = (refl, refl)
+    -- another row than row f is as it was
+    pub other_row : (g : ℕ) → (g ≡ f → ⊥) → row n g (low ++ (own ++ drop n rest)) ≡ row n g (low ++ rest)
+    other_row g ne =
+        ⊎_elim
+        (λ (w : g < f). let fits : g * n + n ≤ length low = omega (arith, before, row_below g f n w) in row_front g low (own ++ drop n rest) fits ∙ sym (row_front g low rest fits))
+        (λ (w : f ≤ g). row_back g (omega (arith, ne)))
+        (cases_lt g f)
 
-  pub elsewhere_more : (m n : ℕ) (xs ys : List K) (p : ℕ) (v : K) → p < n → Elsewhere m n xs ys → Elsewhere m n xs (set ys (m + p) v)
-  elsewhere_more m n xs ys p v h same = (take-set-le m ys (m + p) v (omega arith) ∙ same.0, drop-set-lt (m + n) ys (m + p) v (omega arith) ∙ same.1)
+  -- row f written anew where it stands; k is the length that it has
+  module _ (f k : ℕ) (xs own : List K) (is : k ≡ n) (room : f * n + n ≤ length xs) (long : length own ≡ n) where
+    pub put_own : row n f (put_mid (f * n) k xs own) ≡ own
+    put_own = row_own f (take (f * n) xs) own [] (length-take-le (f * n) xs (omega arith)) long (post_of (f * n) k xs)
+
+    pub put_other : (g : ℕ) → (g ≡ f → ⊥) → row n g (put_mid (f * n) k xs own) ≡ row n g xs
+    put_other g ne =
+        ⊎_elim
+        (λ (w : g < f).
+        let low = take (f * n) xs in
+        let fits : g * n + n ≤ length low = omega (arith, length-take-le (f * n) xs (omega arith), row_below g f n w) in
+        row_front g low (own ++ post_of (f * n) k xs) fits ∙ sym (row_front g low (drop (f * n) xs) fits) ∙ ap (row n g) (take-append-drop (f * n) xs))
+        (λ (w : f ≤ g). ap (take n) (drop-put_mid (f * n) k xs own (g * n) (omega (arith, row_below f g n (omega (arith, ne)))) (omega arith) (long ∙ sym is)))
+        (cases_lt g f)

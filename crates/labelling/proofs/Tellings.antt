@@ -1,15 +1,15 @@
 -- Rows that tell of formulas, from the rows of their parts. Assumes nothing.
-use Rattle.std.proofs.Common.{◌≡◌, ℕ, suc, ◌+◌, ◌-◌, ◌<◌, ◌≤◌, min, Bool, true, false, not, ◌&&◌, ◌||◌, ltb, List, length, Decides, sym, refl, ap, ◌∙◌, ⊎_elim, arith}
+use Rattle.std.proofs.Common.{◌≡◌, ℕ, suc, ◌+◌, ◌-◌, ◌<◌, ◌≤◌, min, Bool, true, false, not, ◌&&◌, ◌||◌, cond, ltb, List, length, Option, None, Some, Decides, MatchOption, sym, refl, ap, ◌∙◌, ⊎_elim, arith}
 use Rattle.std.proofs.lemmas.Bool.{cases_lt, cases_eq, false≢true, lt-ltb, le-ltb, cond-true, cond-false}
 use Rattle.std.proofs.lemmas.Bool.Decides.{Decides-like, Decides-at, Decides-and, Decides-or, Decides-not, same_from_decides}
-use Rattle.labels.specs.Readings.{Reading, negated, both, either, seen}
+use Rattle.labels.specs.Readings.{Reading, Same, opened, negated, both, either, seen}
 use Rattle.logic.specs.States.{Trace}
-use Rattle.logic.specs.Logic.{Tree, not', and', or', next, previous, until, since, at', Reads, is_loose}
+use Rattle.logic.specs.Logic.{Tree, not', and', or', next, previous, until, since, at', Carries, Nameless, Reads, is_loose}
 use Rattle.logic.proofs.Keeps.{kept_in, kept_out, past}
 use Rattle.logic.proofs.Looses.{binding_free}
 use Rattle.logic.proofs.Uniques.{UniqueTo}
 use Rattle.labelling.specs.Rows.{cell, at, prior, Filled}
-use Rattle.labelling.specs.Tells.{Tells, NominalPlace}
+use Rattle.labelling.specs.Tells.{Tells, NamedState}
 use Rattle.labelling.proofs.Cells.{cell_past}
 use Rattle.labelling.proofs.Fills.{prior_next, prior_none, until_at, UntilFrom, since_at}
 use Rattle.labelling.proofs.Decisions.{DecidedTo}
@@ -104,29 +104,38 @@ module _ {K : Type 0} (reads : K → Reading) (reach n : ℕ) (s : Trace) (v : �
           (Decides-like _ (λ x. kept_in e (min c n) i w (more, x)) (λ k. (kept_out e (min c n) i w k).1) (ta e c (i - 1) lo hi (omega arith))))
           (cases_eq i 1)))
 
-      pub tells_at : (name p : ℕ) → UniqueTo n s → NominalPlace s n name p → Filled reads reach (λ q. seen (q + 1) (cell reads a p)) own n → Tells reads reach n s v (at' name φ) own
-      tells_at name p one place filled =
-          tells_by own long (λ q. seen (q + 1) (cell reads a p)) filled (at' name φ)
+      -- `at`, where state t carries the nominal, and where none of the n states does
+      tells_at : (name t : ℕ) → UniqueTo n s → 1 ≤ t → t ≤ n → Carries (s t) name → Filled reads reach (λ q. seen (q + 1) (at reads a t)) own n → Tells reads reach n s v (at' name φ) own
+      tells_at name t one t1 tn here filled =
+          tells_by own long (λ q. seen (q + 1) (at reads a t)) filled (at' name φ)
           (λ e c i lo hi w z. cond-true _ _ _ (lt-ltb c (i - 1 + 1) (omega arith)))
           (λ e c i lo hi pos w.
           let m = min c n in
-          let X : ℕ → Type 0 = λ t. Reads e s m v t φ in
-          let there : cell reads a p e c ≡ at reads a (p + 1) e c = ap (λ q. cell reads a q e c) (omega arith) in
-          let named = ta e c (p + 1) lo hi (omega arith) in
-          Decides-at _ _ (cond-false _ _ _ (le-ltb c (i - 1 + 1) (omega arith)) ∙ there)
+          let X : ℕ → Type 0 = λ j. Reads e s m v j φ in
+          Decides-at _ _ (cond-false _ _ _ (le-ltb c (i - 1 + 1) (omega arith)))
           (Decides-like _ (kept_in e m i w) (kept_out e m i w)
           (⊎_elim
-          (λ (z : m < p + 1).
-          Decides-at _ _ (tells_past φ a ta e c (p + 1) lo hi z)
-          (at_none e s m name X
-          (λ t t1 tm k.
-          ⊎_elim
-          (λ (y : p < n). let eq : t ≡ p + 1 = one t (p + 1) name t1 (omega arith) (omega arith) (omega arith) k (place.1 y) in omega arith)
-          (λ (y : n ≤ p). place.2 (omega (arith, place.0)) t t1 (omega arith) k)
-          (cases_lt p n))))
-          (λ (z : p + 1 ≤ m).
-          at_kept e s m name (p + 1) X _ (omega arith) z (place.1 (omega arith)) (λ x j y x1 xm j1 jm. one x j y x1 (omega arith) j1 (omega arith)) named)
-          (cases_lt m (p + 1)))))
+          (λ (z : m < t).
+          Decides-at _ _ (tells_past φ a ta e c t lo hi z)
+          (at_none e s m name X (λ j j1 jm k. let eq : j ≡ t = one j t name j1 (omega arith) t1 tn k here in omega arith)))
+          (λ (z : t ≤ m). at_kept e s m name t X _ t1 z here (λ x j y x1 xm j1 jm. one x j y x1 (omega arith) j1 (omega arith)) (ta e c t lo hi t1))
+          (cases_lt m t))))
+
+      tells_at_none : (name : ℕ) → Nameless s n name → Filled reads reach (λ q. seen (q + 1) opened) own n → Tells reads reach n s v (at' name φ) own
+      tells_at_none name none filled =
+          tells_by own long (λ q. seen (q + 1) opened) filled (at' name φ)
+          (λ e c i lo hi w z. cond-true _ _ _ (lt-ltb c (i - 1 + 1) (omega arith)))
+          (λ e c i lo hi pos w.
+          let m = min c n in
+          Decides-at _ _ (cond-false _ _ _ (le-ltb c (i - 1 + 1) (omega arith)))
+          (Decides-like _ (kept_in e m i w) (kept_out e m i w) (at_none e s m name (λ j. Reads e s m v j φ) (λ j j1 jm. none j j1 (omega arith)))))
+
+      pub tells_named : (name : ℕ) (named : Option ℕ) (there : Reading) → UniqueTo n s → NamedState s n name named
+          → MatchOption named (Same reach there opened) (λ t. Same reach there (at reads a t)) → Filled reads reach (λ q. seen (q + 1) there) own n → Tells reads reach n s v (at' name φ) own
+      tells_named name None there one none is filled =
+          tells_at_none name none (λ q e c less lo hi. filled q e c less lo hi ∙ ap (cond (ltb c (q + 1)) e) (is e c lo hi))
+      tells_named name (Some t) there one here is filled =
+          tells_at name t one here.0 here.1 here.2 (λ q e c less lo hi. filled q e c less lo hi ∙ ap (cond (ltb c (q + 1)) e) (is e c lo hi))
 
       module _ (ψ : Tree) (b : List K) (tb : Tells reads reach n s v ψ b) where
         pub tells_and : Filled reads reach (λ q. both (cell reads a q) (cell reads b q)) own n → Tells reads reach n s v (and' φ ψ) own

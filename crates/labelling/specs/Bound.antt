@@ -1,5 +1,5 @@
 -- What the cells of a table's rows tell while formulas are labelled under bindings of the variable.
-use Rattle.std.specs.Prelude.{◌≡◌, ℕ, ◌<◌, ◌≤◌, Bool, true, false, ◌⊎◌, List, drop, slice_index_or}
+use Rattle.std.specs.Prelude.{◌≡◌, ℕ, ◌<◌, ◌≤◌, Bool, true, false, ◌⊎◌, List, slice_index_or}
 use Rattle.labels.specs.Readings.{Reading, opened}
 use Rattle.logic.specs.declared.types.Formula.{Formula}
 use Rattle.logic.specs.declared.types.Formula.TheVariants.{True}
@@ -7,16 +7,16 @@ use Rattle.logic.specs.declared.types.Reference.{Reference}
 use Rattle.logic.specs.States.{Trace}
 use Rattle.logic.specs.Logic.{Tree, Reads}
 use Rattle.logic.specs.Tables.{tree, loose, EachPart}
-use Rattle.labelling.specs.Rows.{cell, Filled}
-use Rattle.labelling.specs.Tells.{Tells, row}
+use Rattle.labelling.specs.Rows.{cell, row, Filled}
+use Rattle.labelling.specs.Tells.{Tells}
 
 -- of the first m formulas, those that are not loose are told, whatever the variable is bound to
 abbrev pub ClosedTold : {K : Type 0} → (K → Reading) → (reach n : ℕ) → Trace → List Formula → List K → (m : ℕ) → Type 0
 ClosedTold reads reach n s table cells m = (g v : ℕ) → g < m → loose table g ≡ false → Tells reads reach n s v (tree table g) (row n g cells)
 
--- a formula that a pass over the wanted ones leaves told: it is not loose, or it is wanted
+-- a formula that a pass over the wanted ones leaves told: if it is loose, it is wanted
 abbrev pub Ready : List Formula → List Bool → ℕ → Type 0
-Ready table wanted g = (loose table g ≡ false) ⊎ (slice_index_or wanted g false ≡ true)
+Ready table wanted g = loose table g ≡ true → slice_index_or wanted g false ≡ true
 
 -- the wanted formulas are loose, and with each of them its parts are ready
 abbrev pub Cone : List Formula → List Bool → (m : ℕ) → Type 0
@@ -26,17 +26,13 @@ Cone table wanted m = (g : ℕ) → g < m → slice_index_or wanted g false ≡ 
 abbrev pub AllTold : {K : Type 0} → (K → Reading) → (reach n : ℕ) → Trace → List Formula → List Bool → (v : ℕ) → List K → (m : ℕ) → Type 0
 AllTold reads reach n s table wanted v cells m = (g : ℕ) → g < m → Ready table wanted g → Tells reads reach n s v (tree table g) (row n g cells)
 
--- the cells from place k on are as they were
-abbrev pub RestKept : {K : Type 0} → ℕ → List K → List K → Type 0
-RestKept k old cells = drop k cells ≡ drop k old
-
 -- the formula reads so at state i for the target of a reference of the kind
 abbrev pub Through : Trace → Tree → (kind : ℕ) → Reference → (i : ℕ) → Bool → (c : ℕ) → Type 0
 Through s φ kind ref i e c = (ref.kind ≡ kind) × Reads e s c ref.target i φ
 
 -- formula x is wanted if it is flagged as loose
 abbrev pub Wanted : List Bool → List Bool → ℕ → Type 0
-Wanted flags wanted x = (slice_index_or flags x false ≡ false) ⊎ (slice_index_or wanted x false ≡ true)
+Wanted flags wanted x = slice_index_or flags x false ≡ true → slice_index_or wanted x false ≡ true
 
 -- more formulas are wanted, all of them before formula f and flagged
 abbrev pub Grown : ℕ → List Bool → List Bool → List Bool → Type 0

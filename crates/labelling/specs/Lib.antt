@@ -1,4 +1,5 @@
 pub mod Rows
 pub mod Tells
 pub mod Bound
+pub mod Props
 pub mod Whole

@@ -1,14 +1,10 @@
 -- Rows of labels, one for each state, that stand one after another in a list of cells.
-use Rattle.std.specs.Prelude.{◌≡◌, ℕ, zero, suc, ◌+◌, ◌-◌, ◌<◌, ◌≤◌, Bool, false, List, [], ◌∷◌, take, drop}
+use Rattle.std.specs.Prelude.{◌≡◌, ℕ, zero, suc, ◌-◌, ◌*◌, ◌<◌, ◌≤◌, Bool, false, List, [], ◌∷◌, take, drop}
 use Rattle.labels.specs.Readings.{Reading}
 
--- the n cells from place m on
-abbrev pub part : {K : Type 0} → (m n : ℕ) → List K → List K
-part m n xs = take n (drop m xs)
-
--- ys is xs but for the n cells from place m on
-abbrev pub Elsewhere : {K : Type 0} → (m n : ℕ) → List K → List K → Type 0
-Elsewhere m n xs ys = (take m ys ≡ take m xs) × (drop (m + n) ys ≡ drop (m + n) xs)
+-- the row of formula f, with n states to a row
+abbrev pub row : {K : Type 0} → (n f : ℕ) → List K → List K
+row n f cells = take n (drop (f * n) cells)
 
 -- the reading of the label at a place, and unknown past the row's end
 unfoldable pub cell : {K : Type 0} → (K → Reading) → List K → ℕ → Reading

@@ -1,12 +1,12 @@
 -- Rows of labels that tell of formulas.
-use Rattle.std.specs.Prelude.{◌≡◌, ℕ, ◌+◌, ◌*◌, ◌<◌, ◌≤◌, min, Bool, true, false, List, Decides}
+use Rattle.std.specs.Prelude.{◌≡◌, ℕ, ◌<◌, ◌≤◌, min, Bool, true, false, List, Option, Decides, MatchOption}
 use Rattle.labels.specs.Readings.{Reading}
 use Rattle.logic.specs.declared.types.State.{State}
 use Rattle.logic.specs.declared.types.Formula.{Formula}
 use Rattle.logic.specs.declared.types.Formula.TheVariants.{True, Signal, Nominal, Not, And, Or, Next, Previous, Until, Since, At, Variable, Reference, Bind, Some}
 use Rattle.logic.specs.States.{Trace}
 use Rattle.logic.specs.Logic.{Tree, Shows, Carries, Refers, Nameless, Reads}
-use Rattle.labelling.specs.Rows.{at, part}
+use Rattle.labelling.specs.Rows.{at}
 
 -- A row of labels, one for each of the first n states, tells of a formula: at every state and every truncation point up to
 -- the kind's length it gives both readings. A point after the last state keeps all n states, so it reads as point n does;
@@ -14,13 +14,9 @@ use Rattle.labelling.specs.Rows.{at, part}
 abbrev pub Tells : {K : Type 0} → (K → Reading) → (reach n : ℕ) → Trace → (v : ℕ) → Tree → List K → Type 0
 Tells reads reach n s v φ xs = (e : Bool) (c i : ℕ) → 0 < c → c ≤ reach → 0 < i → Decides (at reads xs i e c) (Reads e s (min c n) v i φ)
 
--- of the first n states the one at place p, from 0, carries nominal a; p is n where none does
-abbrev pub NominalPlace : Trace → (n a : ℕ) → (p : ℕ) → Type 0
-NominalPlace s n a p = (p ≤ n) × (p < n → Carries (s (p + 1)) a) × (p ≡ n → Nameless s n a)
-
--- the row of formula f, with n states to a row
-abbrev pub row : {K : Type 0} → (n f : ℕ) → List K → List K
-row n f cells = part (f * n) n cells
+-- of the first n states, the one that carries nominal a, if there is one
+abbrev pub NamedState : Trace → (n a : ℕ) → Option ℕ → Type 0
+NamedState s n a named = MatchOption named (Nameless s n a) (λ i. (1 ≤ i) × (i ≤ n) × Carries (s i) a)
 
 -- whether a formula has no parts
 abbrev pub leaf : Formula → Bool

@@ -2,6 +2,7 @@
 #![tactic(auto)]
 
 mod binders;
-mod passes;
+mod job;
 mod rows;
+mod wants;
 pub mod whole;

@@ -1,13 +1,30 @@
 // The labels of one formula at all states, from those of its parts. A row has one cell for each state.
-ghost use Rattle.std.specs.Prelude.{◌≡◌, ℕ, ◌<◌, length, slice_index_or};
-ghost use Rattle.labels.specs.Readings.{Same};
+ghost use Rattle.std.specs.Prelude.{◌≡◌, ℕ, ◌+◌, ◌*◌, ◌^◌, ◌<◌, ◌≤◌, length, IfSome, MatchOption, slice_index_or};
+ghost use Rattle.labels.specs.Readings.{Same, opened, negated, both, either, seen};
 ghost use Rattle.logic.specs.States.{Trace};
 ghost use Rattle.logic.specs.Logic.{Tree, not', and', or', next, previous, until, since, at'};
 ghost use Rattle.logic.specs.Lawful.{LawfulTo};
-ghost use Rattle.labelling.specs.Rows.{cell};
-ghost use Rattle.labelling.specs.Tells.{Tells, NominalPlace};
+ghost use Rattle.labelling.specs.Rows.{at, cell, prior, row};
+ghost use Rattle.labelling.specs.Tells.{Tells, NamedState};
 
 use labels::LabelKind;
+
+// The row of formula f, with n states to a row.
+pub(crate) fn row_of<K>(n: usize, f: usize, cells: &[K]) -> &[K]
+    requires { f * n + n ≤ length cells.now }
+    ensures { result.now ≡ row n f cells.now }
+{
+    &cells[f * n..f * n + n]
+}
+
+// Makes labels unknown. Not by `fill`: it asks for a clone that cannot fail, which a kind of label does not promise.
+pub(crate) fn clear<K: LabelKind + Copy>(cells: &mut [K])
+    ensures { (p : ℕ) (d : K) → p < length cells.old → Same K.reach (K.reads (slice_index_or cells.new p d)) opened }
+{
+    for cell in cells.iter_mut() {
+        *cell = K::unknown();
+    }
+}
 
 // Fills a row with the label of each place.
 pub(crate) fn fill_row<K: Copy, F: Fn(usize) -> K>(own: &mut [K], label: F)
@@ -23,45 +40,83 @@ pub(crate) fn label_not<K: LabelKind + Copy>(a: &[K], own: &mut [K])
     requires long { length a.now ≡ length own.old }
     ensures told { (s : Trace) (v : ℕ) (f : Tree) → Tells K.reads K.reach (length own.old) s v f a.now → Tells K.reads K.reach (length own.old) s v (not' f) own.new }
 {
-    fill_row(own, |p| a[p].not());
+    fill_row(
+        own,
+        |p|
+            requires { p < length a.now }
+            ensures { Same K.reach (K.reads result) (negated (cell K.reads a.entry.now p)) }
+        { a[p].not() },
+    );
 }
 
 pub(crate) fn label_and<K: LabelKind + Copy>(a: &[K], b: &[K], own: &mut [K])
     requires long { (length a.now ≡ length own.old) × (length b.now ≡ length own.old) }
     ensures told { (s : Trace) (v : ℕ) (f g : Tree) → Tells K.reads K.reach (length own.old) s v f a.now → Tells K.reads K.reach (length own.old) s v g b.now → Tells K.reads K.reach (length own.old) s v (and' f g) own.new }
 {
-    fill_row(own, |p| a[p].and(b[p]));
+    fill_row(
+        own,
+        |p|
+            requires { (p < length a.now) × (p < length b.now) }
+            ensures { Same K.reach (K.reads result) (both (cell K.reads a.entry.now p) (cell K.reads b.entry.now p)) }
+        { a[p].and(b[p]) },
+    );
 }
 
 pub(crate) fn label_or<K: LabelKind + Copy>(a: &[K], b: &[K], own: &mut [K])
     requires long { (length a.now ≡ length own.old) × (length b.now ≡ length own.old) }
     ensures told { (s : Trace) (v : ℕ) (f g : Tree) → Tells K.reads K.reach (length own.old) s v f a.now → Tells K.reads K.reach (length own.old) s v g b.now → Tells K.reads K.reach (length own.old) s v (or' f g) own.new }
 {
-    fill_row(own, |p| a[p].or(b[p]));
+    fill_row(
+        own,
+        |p|
+            requires { (p < length a.now) × (p < length b.now) }
+            ensures { Same K.reach (K.reads result) (either (cell K.reads a.entry.now p) (cell K.reads b.entry.now p)) }
+        { a[p].or(b[p]) },
+    );
 }
 
 // The label at a place of a row, and unknown past its end.
 fn label_at<K: LabelKind + Copy>(row: &[K], p: usize) -> K
     ensures { Same K.reach (K.reads result) (cell K.reads row.now p) }
 {
-    row.get(p).copied().unwrap_or_else(K::unknown)
+    match row.get(p) {
+        Some(label) => *label,
+        None => K::unknown(),
+    }
 }
 
 pub(crate) fn label_next<K: LabelKind + Copy>(a: &[K], own: &mut [K])
     requires long { length a.now ≡ length own.old }
     ensures told { (s : Trace) (v : ℕ) (f : Tree) → Tells K.reads K.reach (length own.old) s v f a.now → Tells K.reads K.reach (length own.old) s v (next f) own.new }
 {
-    fill_row(own, |p| label_at(a, p + 1));
+    fill_row(
+        own,
+        |p|
+            requires { p < length a.now }
+            ensures { Same K.reach (K.reads result) (cell K.reads a.entry.now (p + 1)) }
+        { label_at(a, p + 1) },
+    );
+}
+
+// The label at the place before, and false before the first.
+fn label_before<K: LabelKind + Copy>(row: &[K], p: usize) -> K
+    requires { p ≤ length row.now }
+    ensures { Same K.reach (K.reads result) (prior K.reads row.now p) }
+{
+    if p == 0 { K::false_from(1) } else { row[p - 1] }
 }
 
 pub(crate) fn label_previous<K: LabelKind + Copy>(a: &[K], own: &mut [K])
     requires long { length a.now ≡ length own.old }
     ensures told { (s : Trace) (v : ℕ) (f : Tree) → Tells K.reads K.reach (length own.old) s v f a.now → Tells K.reads K.reach (length own.old) s v (previous f) own.new }
 {
-    fill_row(own, |p| match p.checked_sub(1) {
-        Some(before) => a[before].seen_from(p + 1),
-        None => K::false_from(1),
-    });
+    fill_row(
+        own,
+        |p|
+            requires { p < length a.now }
+            ensures { Same K.reach (K.reads result) (seen (p + 1) (prior K.reads a.entry.now p)) }
+        { label_before(a, p).seen_from(p + 1) },
+    );
 }
 
 pub(crate) fn label_until<K: LabelKind + Copy>(a: &[K], b: &[K], own: &mut [K])
@@ -69,6 +124,7 @@ pub(crate) fn label_until<K: LabelKind + Copy>(a: &[K], b: &[K], own: &mut [K])
     ensures told { (s : Trace) (v : ℕ) (f g : Tree) → Tells K.reads K.reach (length own.old) s v f a.now → Tells K.reads K.reach (length own.old) s v g b.now → Tells K.reads K.reach (length own.old) s v (until f g) own.new }
 {
     let mut next = K::unknown();
+    // By place: after a loop over `iter_mut().rev()` nothing is known of the cells.
     for p in (0..own.len()).rev() {
         next = b[p].or(a[p].and(next));
         own[p] = next;
@@ -86,11 +142,29 @@ pub(crate) fn label_since<K: LabelKind + Copy>(a: &[K], b: &[K], own: &mut [K])
     }
 }
 
-// Labels `at`: the label at the place of the state that carries the nominal, as each state sees it; unknown where none does.
-pub(crate) fn label_named<K: LabelKind + Copy>(a: &[K], place: Option<usize>, own: &mut [K])
-    requires long { length a.now ≡ length own.old }
-    ensures told { (s : Trace) (v name : ℕ) (f : Tree) → LawfulTo (length own.old) s → NominalPlace s (length own.old) name place → Tells K.reads K.reach (length own.old) s v f a.now → Tells K.reads K.reach (length own.old) s v (at' name f) own.new }
+// The label at a state, and unknown where there is none.
+fn label_in<K: LabelKind + Copy>(row: &[K], state: Option<usize>) -> K
+    requires { IfSome state (λ i. (1 ≤ i) × (i ≤ length row.now)) }
+    ensures { MatchOption state (Same K.reach (K.reads result) opened) (λ i. Same K.reach (K.reads result) (at K.reads row.now i)) }
 {
-    let there = place.map_or_else(K::unknown, |p| a[p]);
-    fill_row(own, |p| there.seen_from(p + 1));
+    match state {
+        Some(i) => row[i - 1],
+        None => K::unknown(),
+    }
+}
+
+// Labels `at`: the label at the state that carries the nominal, as each state sees it; unknown where none carries it.
+pub(crate) fn label_named<K: LabelKind + Copy>(a: &[K], named: Option<usize>, own: &mut [K])
+    requires long { length a.now ≡ length own.old }
+    requires within { IfSome named (λ i. (1 ≤ i) × (i ≤ length a.now)) }
+    ensures told { (s : Trace) (v name : ℕ) (f : Tree) → LawfulTo (length own.old) s → NamedState s (length own.old) name named → Tells K.reads K.reach (length own.old) s v f a.now → Tells K.reads K.reach (length own.old) s v (at' name f) own.new }
+{
+    let there = label_in(a, named);
+    fill_row(
+        own,
+        |p|
+            requires { p + 1 < 2 ^ 64 }
+            ensures { Same K.reach (K.reads result) (seen (p + 1) (K.reads there)) }
+        { there.seen_from(p + 1) },
+    );
 }

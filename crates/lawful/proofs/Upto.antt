@@ -1,5 +1,5 @@
 -- What a chain over `1..=n` finds. Assumes nothing.
-use Rattle.std.proofs.Common.{◌≡◌, ℕ, zero, suc, ◌+◌, ◌-◌, ◌<◌, ◌≤◌, Bool, true, false, length, get_or, Decides, MatchBool, sym, refl, ap, ◌∙◌, subst, ⊎_elim, arith}
+use Rattle.std.proofs.Common.{◌≡◌, ℕ, zero, suc, ◌+◌, ◌-◌, ◌<◌, ◌≤◌, Bool, true, false, length, get_or, Option, None, Some, Decides, MatchBool, MatchOption, sym, refl, ap, ◌∙◌, subst, ⊎_elim, arith}
 use Rattle.std.proofs.iter.runs.Sources.{nat_range_inclusive_steps}
 use Rattle.std.proofs.lemmas.Bool.{cases_Bool, false≢true}
 use Rattle.std.proofs.lemmas.Iterator.{YieldsList}
@@ -40,3 +40,13 @@ any_upto n P false h = (
   (λ e. absurd (false≢true e)),
   (λ w. absurd (h (w.0 - 1) 0 (omega arith) (omega (arith, w.1, w.2, length-range_with_len 1 n)) (subst P (sym (at-upto n w.0 w.1 w.2)) w.3))),
 )
+
+-- what `find` says
+pub find_upto : (n : ℕ) (P : ℕ → Type 0) (r : Option ℕ)
+    → MatchOption r (AllWithin (λ i. P i → ⊥) (range_with_len 1 n) 0 (length (range_with_len 1 n))) (λ x. P x × (i : ℕ) × (i < length (range_with_len 1 n)) × HoldsAt (λ y. y ≡ x) (range_with_len 1 n) i × AllWithin (λ i. P i → ⊥) (range_with_len 1 n) 0 i)
+    → MatchOption r ((i : ℕ) → 1 ≤ i → i ≤ n → P i → ⊥) (λ i. (1 ≤ i) × (i ≤ n) × P i)
+find_upto n P None h = λ i one le p. h (i - 1) 0 (omega arith) (omega (arith, length-range_with_len 1 n)) (subst P (sym (at-upto n i one le)) p)
+find_upto n P (Some x) h =
+    let long = length-range_with_len 1 n in
+    let is : x ≡ h.1 + 1 = sym (h.3 0) ∙ get_or-range_with_len 1 n h.1 0 (omega (arith, h.2)) ∙ omega arith in
+    (omega arith, omega (arith, h.2), h.0)

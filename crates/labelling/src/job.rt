@@ -1,0 +1,125 @@
+// A labelling at work, and the labels of one formula that binds no variable.
+ghost use Rattle.std.specs.Prelude.{◌≡◌, ℕ, ◌+◌, ◌*◌, ◌/◌, ◌%◌, ◌^◌, ◌<◌, ◌≤◌, Bool, true, false, length, Decides, slice_index_or};
+ghost use Rattle.labels.specs.Readings.{Same, fixed};
+ghost use Rattle.logic.specs.declared.types.Formula.TheVariants.{True};
+ghost use Rattle.logic.specs.States.{state_at};
+ghost use Rattle.logic.specs.Lawful.{LawfulTo};
+ghost use Rattle.logic.specs.Logic.{Tree, Refers};
+ghost use Rattle.logic.specs.Tables.{node, tree, binds, EachPart, InRange, OrderlyTable, Flagged};
+ghost use Rattle.labelling.specs.Rows.{row};
+ghost use Rattle.labelling.specs.Props.{OrderlyTable-prop};
+ghost use Rattle.labelling.specs.Tells.{Tells, NamedState, Here, leaf};
+
+use crate::rows::{
+    label_and, label_named, label_next, label_not, label_or, label_previous, label_since,
+    label_until, row_of,
+};
+use labels::LabelKind;
+use logic::types::{Formula, State};
+use records::readable::Readable;
+
+// What a labelling goes by: a lawful record of n states, and a table in order with the flag of each formula, whether it is loose.
+#[derive(Drop)]
+pub(crate) struct Job<'a, R: Readable> {
+    pub(crate) log: &'a R,
+    pub(crate) n: usize,
+    pub(crate) table: &'a [Formula],
+    pub(crate) flags: &'a [bool],
+    ghost count: { n ≡ length (R.Readable.states log.now) },
+    ghost lawful: { LawfulTo n (state_at (R.Readable.states log.now)) },
+    ghost few: { length table.now ≤ 64 },
+    ghost orderly: { OrderlyTable table.now } by { OrderlyTable-prop table.now },
+    ghost each: { length flags.now ≡ length table.now },
+    ghost flagged: { Flagged table.now flags.now (length table.now) },
+}
+
+fn is_on(signals: u32, b: u8) -> bool
+    requires { b < 32 }
+    ensures { Decides result (signals / 2 ^ b % 2 ≡ 1) }
+{
+    (signals >> b) % 2 == 1
+}
+
+fn refers(state: State, kind: u8, v: usize) -> bool
+    requires { 0 < kind }
+    ensures { Decides result (Refers state kind v) }
+{
+    (state.first.kind == kind && usize::from(state.first.target) == v)
+        || (state.second.kind == kind && usize::from(state.second.target) == v)
+}
+
+// Whether a formula without parts holds in state i.
+fn holds_here<R: Readable>(log: &R, formula: Formula, v: usize, i: usize) -> bool
+    requires { InRange formula }
+    ensures { Decides result (Here formula (state_at (R.states log.now) i) v i) }
+{
+    match formula {
+        Formula::True => true,
+        Formula::Signal(b) => is_on(log.state(i).signals, b),
+        Formula::Nominal(a) => log.state(i).nominal == a,
+        Formula::Variable => i == v,
+        Formula::Reference(kind) => refers(log.state(i), kind, v),
+        _ => false,
+    }
+}
+
+// The label that is decided from point i on.
+fn decided<K: LabelKind>(value: bool, i: usize) -> K
+    ensures { Same K.reach (K.reads result) (fixed i value) }
+{
+    if value {
+        K::true_from(i)
+    } else {
+        K::false_from(i)
+    }
+}
+
+impl<'a, R: Readable> Job<'a, R> {
+    // Labels a formula without parts.
+    fn label_here<K: LabelKind + Copy>(&self, formula: Formula, v: usize, own: &mut [K])
+        requires known { InRange formula × (leaf formula ≡ true) }
+        requires long { length own.old ≡ self.now.n }
+        ensures told { (parts : ℕ → Tree) → Tells K.reads K.reach self.now.n (state_at (R.states self.now.log.now)) v (node formula parts) own.new }
+    {
+        for (p, cell) in own.iter_mut().enumerate() {
+            *cell = decided(holds_here(self.log, formula, v, p + 1), p + 1);
+        }
+    }
+
+    // The state that carries the nominal, if there is one.
+    fn named_state(&self, nominal: u8) -> Option<usize>
+        requires { 0 < nominal }
+        ensures { NamedState (state_at (R.states self.now.log.now)) self.now.n nominal result }
+    {
+        (1..=self.n).find(|i| self.log.state(*i).nominal == nominal)
+    }
+
+    // Labels formula f, which binds no variable, with the variable bound to v, from the rows before its own.
+    pub(crate) fn label_row<K: LabelKind + Copy>(
+        &self,
+        v: usize,
+        f: usize,
+        before: &[K],
+        own: &mut [K],
+    )
+        requires fit { (f < length self.now.table.now) × (binds (slice_index_or self.now.table.now f True) ≡ false) }
+        requires room { (length before.now ≡ f * self.now.n) × (length own.old ≡ self.now.n) }
+        requires parts { EachPart (λ g. Tells K.reads K.reach self.now.n (state_at (R.states self.now.log.now)) v (tree self.now.table.now g) (row self.now.n g before.now)) (slice_index_or self.now.table.now f True) }
+        ensures told { Tells K.reads K.reach self.now.n (state_at (R.states self.now.log.now)) v (tree self.now.table.now f) own.new }
+    {
+        let n = self.n;
+        match self.table[f] {
+            Formula::Not(a) => label_not(row_of(n, a, before), own),
+            Formula::And(a, b) => label_and(row_of(n, a, before), row_of(n, b, before), own),
+            Formula::Or(a, b) => label_or(row_of(n, a, before), row_of(n, b, before), own),
+            Formula::Next(a) => label_next(row_of(n, a, before), own),
+            Formula::Previous(a) => label_previous(row_of(n, a, before), own),
+            Formula::Until(a, b) => label_until(row_of(n, a, before), row_of(n, b, before), own),
+            Formula::Since(a, b) => label_since(row_of(n, a, before), row_of(n, b, before), own),
+            Formula::At(nominal, a) => {
+                label_named(row_of(n, a, before), self.named_state(nominal), own)
+            }
+            formula => self.label_here(formula, v, own),
+        }
+    }
+}
