@@ -1,43 +1,38 @@
 // The list of calls, and the states that it appends.
 use answers::types::Call;
 use logic::types::{Reference, State};
-use records::readable::NO_REFERENCE;
+use records::readable::BLANK;
 
 pub const REQUEST: State = State {
     signals: 1,
-    nominal: 0,
-    first: NO_REFERENCE,
-    second: NO_REFERENCE,
+    ..BLANK
+};
+
+const REPLY: State = State {
+    signals: 2,
+    ..BLANK
 };
 
 // A request and a reply that have the same nominal.
 const NAMED_REQUEST: State = State {
-    signals: 1,
     nominal: 7,
-    first: NO_REFERENCE,
-    second: NO_REFERENCE,
+    ..REQUEST
 };
 
 const NAMED_REPLY: State = State {
-    signals: 2,
     nominal: 7,
-    first: NO_REFERENCE,
-    second: NO_REFERENCE,
+    ..REPLY
 };
 
 // A reply that refers to state 1, and one that refers to state 2, which is itself when it comes second.
 const REPLY_TO_FIRST: State = State {
-    signals: 2,
-    nominal: 0,
     first: Reference { kind: 2, target: 1 },
-    second: NO_REFERENCE,
+    ..REPLY
 };
 
 const REPLY_TO_SECOND: State = State {
-    signals: 2,
-    nominal: 0,
     first: Reference { kind: 2, target: 2 },
-    second: NO_REFERENCE,
+    ..REPLY
 };
 
 pub const CALLS: [Call; 24] = [

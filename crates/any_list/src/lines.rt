@@ -4,7 +4,8 @@ ghost use Rattle.any_list.specs.Replies.{read};
 
 use crate::calls::CALLS;
 use answers::types::Answer;
-use expectations::types::{Notice, Standing, Tally, Verdict};
+use expectations::types::Verdict;
+use faults::fault::Fault;
 use labels::LabelKind;
 use records::growing::Growing;
 use refusals::Refusal;
@@ -19,35 +20,15 @@ fn print_refusal(rt: &HostRuntime, refusal: Refusal) -> io::Result<()> {
     println!(rt; "refused={} place={}", refusal.number(), refusal.place())
 }
 
-fn print_standing(rt: &HostRuntime, standing: Standing) -> io::Result<()> {
-    println!(rt; "stands={} date={}", standing.word(), standing.date())
-}
-
-fn print_tally(rt: &HostRuntime, tally: Tally) -> io::Result<()> {
-    println!(rt;
-        "raised={} fulfilled={} violated={} open={}",
-        tally.raised, tally.fulfilled, tally.violated, tally.pending
-    )
-}
-
-fn print_notice(rt: &HostRuntime, notice: Notice) -> io::Result<()> {
-    println!(rt;
-        "r={} from={} is={}",
-        notice.rule,
-        notice.from,
-        notice.event.word()
-    )
-}
-
-fn print_answer(rt: &HostRuntime, answer: Answer) -> io::Result<()> {
+fn print_answer(rt: &HostRuntime, answer: Result<Answer, Refusal>) -> io::Result<()> {
     match answer {
-        Answer::Refused(refusal) => print_refusal(rt, refusal),
-        Answer::Number(number) => println!(rt; "state={number}"),
-        Answer::Reads(verdict) => println!(rt; "reads={}", verdict.word()),
-        Answer::Stands(standing) => print_standing(rt, standing),
-        Answer::Counts(tally) => print_tally(rt, tally),
-        Answer::Tells(notice) => print_notice(rt, notice),
-        Answer::NoMore => println!(rt; "no more"),
+        Err(refusal) => print_refusal(rt, refusal),
+        Ok(Answer::Number(number)) => println!(rt; "state={number}"),
+        Ok(Answer::Reads(verdict)) => println!(rt; "reads={verdict}"),
+        Ok(Answer::Stands(standing)) => println!(rt; "stands={standing} date={}", standing.date()),
+        Ok(Answer::Counts(tally)) => println!(rt; "{tally}"),
+        Ok(Answer::Tells(Some(notice))) => println!(rt; "{notice}"),
+        Ok(Answer::Tells(None)) => println!(rt; "no more"),
     }
 }
 
@@ -65,13 +46,10 @@ fn read_last<K: LabelKind + Copy>(label: K) -> Verdict
 }
 
 fn print_labels<K: LabelKind + Copy>(rt: &HostRuntime, labels: &[K]) -> io::Result<()> {
-    for (k, label) in labels.iter().enumerate() {
-        println!(rt;
-            "f={} s={} reads={}",
-            k / STATES,
-            k % STATES + 1,
-            read_last(*label).word()
-        )?;
+    for (f, row) in labels.chunks(STATES).enumerate() {
+        for (s, label) in (1..).zip(row) {
+            println!(rt; "f={f} s={s} reads={}", read_last(*label))?;
+        }
     }
     Ok(())
 }
@@ -84,7 +62,7 @@ pub fn print_run<K: LabelKind + Copy, R: Growing + Drop>(
     labels: &mut [K],
     work: &mut [K],
 ) -> io::Result<()> {
-    let mut answers = [Answer::NoMore; 24];
+    let mut answers = [Ok(Answer::Tells(None)); 24];
     let outcome = run(table, log, &CALLS, &mut answers, labels, work);
     match outcome.answered {
         Ok(_) => {

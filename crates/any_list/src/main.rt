@@ -23,28 +23,26 @@ use table::finished::Table;
 // The labels of the table's four formulas at the four states that the list leaves.
 const CELLS: usize = 16;
 
-fn print_dated<R: Growing + Drop>(rt: &HostRuntime, table: Table, log: R) -> io::Result<()> {
-    let mut labels = [Dated::unknown(); CELLS];
-    let mut work = [Dated::unknown(); CELLS];
-    print_run(rt, table, log, &mut labels, &mut work)
-}
-
-fn print_strips<R: Growing + Drop>(rt: &HostRuntime, table: Table, log: R) -> io::Result<()> {
-    let mut labels = [Strip::unknown(); CELLS];
-    let mut work = [Strip::unknown(); CELLS];
+fn print_kind<K: LabelKind + Copy, R: Growing + Drop>(
+    rt: &HostRuntime,
+    table: Table,
+    log: R,
+) -> io::Result<()> {
+    let mut labels = vec![in rt.alloc(); K::unknown(); CELLS]?;
+    let mut work = vec![in rt.alloc(); K::unknown(); CELLS]?;
     print_run(rt, table, log, &mut labels, &mut work)
 }
 
 fn print_runs(rt: &HostRuntime, table: Table) -> io::Result<()> {
     let mut rows = [BLANK; 8];
     println!(rt; "record=table labels=dated")?;
-    print_dated(rt, table, TableRecord::new(&mut rows))?;
+    print_kind::<Dated, _>(rt, table, TableRecord::new(&mut rows))?;
     println!(rt; "record=changes labels=strips")?;
-    print_strips(rt, table, ChangeRecord::new())?;
+    print_kind::<Strip, _>(rt, table, ChangeRecord::new())?;
     let mut held = ChangeRecord::new();
     let _ = held.append(REQUEST);
     println!(rt; "record=held labels=dated")?;
-    print_dated(rt, table, held)
+    print_kind::<Dated, _>(rt, table, held)
 }
 
 fn main(rt: HostRuntime) -> io::Result<()> {

@@ -1,5 +1,5 @@
 -- From the law of runs: the answers about the double free, and that it is violated for good.
-use Rattle.std.proofs.Common.{◌≡◌, ℕ, zero, suc, ◌<◌, List, [], ◌∷◌, length, get_or, take, sym, refl, ap, ◌∙◌, subst, arith}
+use Rattle.std.proofs.Common.{◌≡◌, ℕ, zero, suc, ◌<◌, List, [], ◌∷◌, length, get_or, take, Ok, Result, sym, refl, ap, ◌∙◌, subst, arith}
 use Rattle.std.proofs.lemmas.List.{ext_get_or}
 use Rattle.logic.specs.declared.types.Formula.{Formula}
 use Rattle.logic.specs.declared.types.Rule.{Rule}
@@ -19,12 +19,14 @@ use Rattle.answers.specs.declared.types.Call.TheVariants.{Append, LabelAt}
 use Rattle.answers.specs.Tests.{carried_to}
 use Rattle.answers.specs.Answers.{Ground, told, after, accepted}
 use Rattle.answers.specs.Law.{foreign, Ran, Judged}
-use Rattle.runs.specs.Meant.{ground, GoesOn}
+use Rattle.refusals.specs.declared.Refusal.{Refusal}
+use Rattle.monitor.specs.Book.{ground}
+use Rattle.runs.specs.Meant.{GoesOn}
 use Rattle.slots.specs.Slots.{slot_formulas, slot_rule, double_free_lem}
 use Rattle.slots.specs.ForGood.{slot_calls, slot_answers, slot_content, ForGood}
 
 -- ── The answers to a list of calls, one after another ──
-abbrev tolds : Ground → List State → List Call → List Answer
+abbrev tolds : Ground → List State → List Call → List (Result Answer Refusal)
 tolds G xs [] = []
 tolds G xs (c ∷ cs) = told G xs c ∷ tolds G (after G xs c) cs
 
@@ -56,15 +58,15 @@ unfolding tree tree_to
 content_is = refl
 
 -- the labels that the answers tell
-freed_told : told slots double_free_lem (LabelAt 4 1 2) ≡ Reads is.True
+freed_told : told slots double_free_lem (LabelAt 4 1 2) ≡ Ok (Reads is.True)
 unfolding labels_of label until_from true_from false_from tree tree_to loose
 freed_told = refl
 
-taken_told : told slots double_free_lem (LabelAt 4 3 4) ≡ Reads is.False
+taken_told : told slots double_free_lem (LabelAt 4 3 4) ≡ Ok (Reads is.False)
 unfolding labels_of label until_from true_from false_from tree tree_to loose
 taken_told = refl
 
-pub as_expected : (G : Ground) (start : List State) (calls : List Call) (answers : List Answer) (ends : List State) →
+pub as_expected : (G : Ground) (start : List State) (calls : List Call) (answers : List (Result Answer Refusal)) (ends : List State) →
     G ≡ slots → start ≡ [] → calls ≡ slot_calls → length answers ≡ 11 → Ran G start calls answers ends →
     (answers ≡ slot_answers) × (ends ≡ double_free_lem)
 as_expected G start calls answers ends is-slots empty same long ran =

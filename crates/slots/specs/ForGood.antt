@@ -1,5 +1,5 @@
 -- What a monitor answers about the log of a double free, and what that says of every log that goes on from it.
-use Rattle.std.specs.Prelude.{ℕ, ◌<◌, List, [], ◌∷◌}
+use Rattle.std.specs.Prelude.{ℕ, ◌<◌, List, [], ◌∷◌, Ok, Result}
 use Rattle.answers.specs.declared.types.Answer.{Answer}
 use Rattle.answers.specs.declared.types.Answer.TheVariants.{Number, Reads, Stands}
 use Rattle.answers.specs.declared.types.Call.{Call}
@@ -9,6 +9,7 @@ use Rattle.expectations.specs.declared.types.Verdict.TheVariants as is
 use Rattle.logic.specs.Lawful.{Lawful}
 use Rattle.logic.specs.Logic.{Tree, signal, not', next, until, Shows, Holds}
 use Rattle.logic.specs.States.{Trace, Begins}
+use Rattle.refusals.specs.declared.Refusal.{Refusal}
 use Rattle.slots.specs.Slots.{shown, double_free_lem}
 
 -- the six states of the log are appended; then the label of the rule's content is asked, at state 1 as point 2 reads it and at
@@ -19,10 +20,10 @@ slot_calls =
     ∷ LabelAt 4 1 2 ∷ LabelAt 4 3 4 ∷ StandingAt 0 3 4 ∷ StandingAt 0 3 5 ∷ StandingAt 0 3 6 ∷ []
 
 -- the slot of state 1 is freed at state 2, and that of state 3 is taken again at state 4, which nothing later changes
-abbrev pub slot_answers : List Answer
+abbrev pub slot_answers : List (Result Answer Refusal)
 slot_answers =
-    Number 1 ∷ Number 2 ∷ Number 3 ∷ Number 4 ∷ Number 5 ∷ Number 6
-    ∷ Reads is.True ∷ Reads is.False ∷ Stands (Violated 4) ∷ Stands (Violated 4) ∷ Stands (Violated 4) ∷ []
+    Ok (Number 1) ∷ Ok (Number 2) ∷ Ok (Number 3) ∷ Ok (Number 4) ∷ Ok (Number 5) ∷ Ok (Number 6)
+    ∷ Ok (Reads is.True) ∷ Ok (Reads is.False) ∷ Ok (Stands (Violated 4)) ∷ Ok (Stands (Violated 4)) ∷ Ok (Stands (Violated 4)) ∷ []
 
 -- the content of the slot's rule
 abbrev pub slot_content : Tree

@@ -8,6 +8,7 @@ use answers::types::{Answer, Call};
 use labels::LabelKind;
 use labels::dated::Dated;
 use records::change_record::ChangeRecord;
+use refusals::Refusal;
 use runs::run::run;
 use table::defects::Defect;
 
@@ -38,12 +39,12 @@ fn calls() -> [Call; CALLS]
 
 // The answers to these calls on a new monitor. By them the slot of state 3 is violated for good: on no lawful trace that
 // begins with the log is it freed in time.
-pub fn violated_for_good() -> Result<[Answer; CALLS], Defect>
+pub fn violated_for_good() -> Result<[Result<Answer, Refusal>; CALLS], Defect>
     ensures told { result ≡ Ok slot_answers }
     ensures lasts { ForGood }
 {
     let table = slot_table()?;
-    let mut answers = [Answer::NoMore; CALLS];
+    let mut answers = [Ok(Answer::Tells(None)); CALLS];
     let mut labels = [Dated::unknown(); CELLS];
     let mut work = [Dated::unknown(); CELLS];
     let _ = run(

@@ -4,7 +4,7 @@ ghost use Rattle.slots.specs.Slots.{shown, double_free_lem};
 
 use crate::rule::{FREE, TAKE};
 use logic::types::State;
-use records::readable::NO_REFERENCE;
+use records::readable::BLANK;
 
 // The state at which this signal alone is on.
 fn showing(signal: u8) -> State
@@ -13,9 +13,7 @@ fn showing(signal: u8) -> State
 {
     State {
         signals: 1 << signal,
-        nominal: 0,
-        first: NO_REFERENCE,
-        second: NO_REFERENCE,
+        ..BLANK
     }
 }
 

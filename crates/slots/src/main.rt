@@ -6,25 +6,37 @@
 mod for_good;
 mod log;
 mod rule;
+mod stop;
 mod story;
 
 use crate::log::double_free;
 use crate::rule::slot_table;
+use crate::stop::Stop;
 use crate::story::story;
+use faults::fault::Fault;
 use records::change_record::ChangeRecord;
 use records::readable::BLANK;
 use records::table::TableRecord;
 use std::io;
+use table::finished::Table;
+
+fn stories(rt: &HostRuntime, table: Table) -> Result<(), Stop> {
+    let log = double_free();
+    let mut rows = [BLANK; 8];
+    println!(rt; "record=table")?;
+    story(rt, table, TableRecord::new(&mut rows), &log)?;
+    println!(rt; "record=changes")?;
+    story(rt, table, ChangeRecord::new(), &log)
+}
 
 fn main(rt: HostRuntime) -> io::Result<()> {
     let table = match slot_table() {
         Ok(table) => table,
         Err(defect) => return println!(rt; "refused={}", defect.number()),
     };
-    let log = double_free();
-    let mut rows = [BLANK; 8];
-    println!(rt; "record=table")?;
-    story(&rt, table, TableRecord::new(&mut rows), &log)?;
-    println!(rt; "record=changes")?;
-    story(&rt, table, ChangeRecord::new(), &log)
+    match stories(&rt, table) {
+        Ok(()) => Ok(()),
+        Err(Stop::Refused(refusal)) => println!(rt; "refused={}", refusal.number()),
+        Err(Stop::Unwritten(error)) => Err(error),
+    }
 }
