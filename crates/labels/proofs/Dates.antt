@@ -1,11 +1,11 @@
 -- What dated numbers tell by their readings.
-use Rattle.std.proofs.Common.{◌≡◌, ℕ, ◌-◌, ◌<◌, ◌≤◌, min, Bool, true, false, ℤ, pos, negsuc, ◌+ℤ◌, neg_ℤ, nat_abs, ◌≤ℤ◌, ◌<ℤ◌, sym, ◌∙◌, ⊎_elim, arith}
+use Rattle.std.proofs.Common.{◌≡◌, ℕ, ◌-◌, ◌<◌, ◌≤◌, min, Bool, true, false, ℤ, pos, negsuc, ◌+ℤ◌, neg_ℤ, nat_abs, ◌≤ℤ◌, ◌<ℤ◌, sym, refl, ◌∙◌, ⊎_elim, arith}
 use lib.Signed.{lt_z, le_z}
 use Rattle.std.specs.Int.{int_max, int_min}
 use Rattle.std.proofs.lemmas.Int.{ints, clamps, by_lt_z}
 use Rattle.std.proofs.lemmas.Bool.{cases_lt, lt-ltb, le-ltb, cond-true, cond-false}
 use Rattle.labels.specs.Readings.{Reading, Same, DateOf, seen}
-use Rattle.labels.specs.Dated.{dated}
+use Rattle.labels.specs.Dated.{dated, limited_to}
 
 lt_true : (a b : ℤ) → a <ℤ b → lt_z a b ≡ true
 lt_true a b h = grind (arith, ints)
@@ -45,6 +45,15 @@ module _ (z d r : ℤ) (i c : ℕ) (lo : 0 < c) (hi : c ≤ 256) (date : d ≡ p
       (λ h. early e h ∙ sym (cond-true _ _ _ (lt-ltb c i h)))
       (λ h. late e h ∙ sym (cond-false _ _ _ (le-ltb c i h)))
       (cases_lt c i)
+
+-- the same, where the reading is known
+pub weak_limited : (z r : ℤ) (i c : ℕ) → 0 < c → c ≤ 256 → r ≡ limited_to (pos (min 256 (257 - i))) z
+    → lt_z (pos c) (r +ℤ pos 257) ≡ seen i (dated z) true c
+weak_limited z r i c lo hi is = dated_seen z (pos (min 256 (257 - i))) r i c lo hi refl is true
+
+pub strong_limited : (z r : ℤ) (i c : ℕ) → 0 < c → c ≤ 256 → r ≡ limited_to (pos (min 256 (257 - i))) z
+    → le_z (pos 257) (r +ℤ pos c) ≡ seen i (dated z) false c
+strong_limited z r i c lo hi is = dated_seen z (pos (min 256 (257 - i))) r i c lo hi refl is false
 
 -- the strong readings differ at 257 - y, and the weak ones at x + 257
 strong_differs : (x y : ℤ) (c : ℕ) → y +ℤ pos c ≡ pos 257 → x <ℤ y → dated x false c ≡ dated y false c → ⊥

@@ -1,8 +1,7 @@
 // Dated labels: one number tells what a label means up to point 256.
 ghost use Rattle.std.specs.Prelude.{◌≡◌, ◌-◌, min, true, pos, negsuc, ◌+ℤ◌, neg_ℤ, ◌≤ℤ◌, ◌<ℤ◌};
-ghost use Rattle.std.specs.Int.{int_max, int_min};
 ghost use Rattle.labels.specs.Readings.{Same, DateOf, negated, seen};
-ghost use Rattle.labels.specs.Dated.{dated};
+ghost use Rattle.labels.specs.Dated.{dated, limited_to};
 ghost use Rattle.std.proofs.Common.{rules, arith};
 
 use super::LabelKind;
@@ -58,11 +57,10 @@ impl LabelKind for Dated {
         }
     }
 
-    // The value, limited to the range from false to true from point i on.
+    #[tactic(auto, using(crate::proofs::Dates::weak_limited, crate::proofs::Dates::strong_limited))]
     fn seen_from(self, i: usize) -> Dated {
-        let most = date(i);
         Dated {
-            value: self.value.clamp(-most, most),
+            value: limited(self.value, i),
         }
     }
 
@@ -123,6 +121,14 @@ impl Dated {
     {
         self == other
     }
+}
+
+// The value, limited to the numbers from false to true from point i on.
+fn limited(value: i16, i: usize) -> i16
+    ensures { result ≡ limited_to (pos (min 256 (257 - i))) value }
+{
+    let most = date(i);
+    value.clamp(-most, most)
 }
 
 // The number of a label that is true from point i on.

@@ -1,11 +1,13 @@
 -- Single bits of numbers, of masks and of what `trailing_zeros` counts.
 use Rattle.std.proofs.Common.{◌≡◌, ℕ, zero, suc, ◌+◌, ◌-◌, ◌*◌, ◌/◌, ◌%◌, ◌^◌, ◌<◌, ◌≤◌, Bool, true, false, not, ◌&&◌, ◌||◌, eqb, ltb, ◌⊎◌, sym, refl, ap, ◌∙◌, inl, inr, ⊎_elim, mod-eq_of_lt, pow-suc, div-one, arith, pow_pos, pow_mono}
+use Rattle.std.proofs.Math.Pow.{pow-lt}
 use native.Mathlib.Nat.{pow-succ', div-eq_of_lt, div-div-eq-div-mul}
 use lib.Bits.{bit_and, bit_or, bit_xor, xor_add_and}
 use lib.Count.{count_trailing_zeros, under}
 use lib.Pow.{ones_split, ones_lt}
 use Rattle.std.proofs.lemmas.Nat.{and_shr, or_shr, xor_shr, and_mod, or_mod, xor_mod, and_mask, shr_high, mod_below}
 use Rattle.std.proofs.lemmas.Bool.{cases_lt, lt-ltb, le-ltb, eq-eqb}
+use Rattle.std.proofs.lemmas.Bool.Decides.{nat_tests}
 use Rattle.strips.specs.Masks.{bit}
 
 two : (n : ℕ) → (n % 2 ≡ 0) ⊎ (n % 2 ≡ 1)
@@ -67,6 +69,9 @@ bit_not n k h p = ap (λ m. bit m k) (not_xor n h) ∙ bit_of_xor n 184467440737
 pub bit_zero : (k : ℕ) → bit 0 k ≡ false
 bit_zero k = bit_ones 0 k ∙ le-ltb k 0 (omega arith)
 
+pub bit_all : (k : ℕ) → k < 64 → bit 18446744073709551615 k ≡ true
+bit_all k h = bit_ones 64 k ∙ lt-ltb k 64 h
+
 -- bit k + 1 is bit k of the half, and bit 0 tells whether the number is odd
 bit_suc : (n k : ℕ) → bit n (suc k) ≡ bit (n / 2) k
 unfolding bit
@@ -103,3 +108,19 @@ lowest zero n p h = absurd (let z : n < 1 = h in omega arith)
 lowest (suc w) n p h =
     let e : 2 ^ suc w ≡ 2 * 2 ^ w = pow-succ' 2 w in
     split w n (count_trailing_zeros w (n / 2)) (n % 2) refl (λ z. lowest w (n / 2) (omega arith) (omega arith))
+
+module _ (n : ℕ) (some : 0 < n) (fits : n < 2 ^ 64) where
+  pub lowest_within : count_trailing_zeros 64 n + 1 ≤ 64
+  lowest_within = (lowest 64 n some fits).within
+
+  pub lowest_here : (k : ℕ) → k ≡ count_trailing_zeros 64 n → bit n k ≡ true
+  lowest_here k e = ap (bit n) e ∙ (lowest 64 n some fits).here
+
+  pub lowest_below : (k : ℕ) → k < count_trailing_zeros 64 n → bit n k ≡ false
+  lowest_below k h = (lowest 64 n some fits).below k h
+
+-- the bits of the points before i, as they are computed
+pub bit_shifted : (i k : ℕ) → 1 ≤ i → i ≤ 64 → bit (1 * 2 ^ (i - 1) % 18446744073709551616 - 1) k ≡ ltb (k + 1) i
+bit_shifted i k lo hi =
+    let fits : 1 * 2 ^ (i - 1) < 18446744073709551616 = omega (arith, pow-lt {i = i - 1} {j = 64} (omega arith)) in
+    ap (λ n. bit (n - 1) k) (mod-eq_of_lt fits) ∙ ap (λ n. bit (n - 1) k) (omega arith) ∙ bit_ones (i - 1) k ∙ grind (arith, nat_tests)

@@ -1,4 +1,2 @@
-pub mod Keeping
 pub mod Bits
-pub mod Strips
 pub mod Comparing

@@ -1,7 +1,7 @@
 // Strips: labels of two masks, for logs of up to 64 states.
 #![tactic(auto)]
 
-ghost use Rattle.std.specs.Prelude.{◌≡◌, ℕ, ◌+◌, ◌-◌, ◌^◌, ◌<◌, ◌≤◌, min, true, false, ◌==◌};
+ghost use Rattle.std.specs.Prelude.{◌≡◌, ℕ, ◌+◌, ◌-◌, ◌^◌, ◌<◌, ◌≤◌, min, true, false, nat_lt, ◌==◌};
 ghost use Rattle.std.specs.Int.Count.{count_trailing_zeros};
 ghost use Rattle.labels.specs.Readings.{Same, Sound, DateOf, fixed, negated, both, either, seen};
 ghost use Rattle.labels.specs.Dated.{dated};
@@ -15,7 +15,7 @@ use labels::dated::Dated;
 const REACH: usize = 64;
 
 // Bit c - 1 of each mask is the reading at truncation point c.
-#[derive(Drop, Clone, Copy)]
+#[derive(Drop, Clone, Copy, PartialEq, Eq, Debug)]
 pub struct Strip {
     weak: u64,
     strong: u64,
@@ -35,157 +35,102 @@ impl LabelKind for Strip {
 
     // Its weak mask is all ones and its strong mask is 0.
     fn unknown() -> Strip {
-        true_since(REACH + 1)
+        Strip::true_from(REACH + 1)
     }
 
+    #[tactic(auto, using(crate::proofs::Bits::bit_not, crate::proofs::Bits::bit_all))]
     fn true_from(i: usize) -> Strip {
-        true_since(i)
+        Strip {
+            weak: !0,
+            strong: !bits_before(i),
+        }
     }
 
     fn false_from(i: usize) -> Strip {
-        flipped(true_since(i))
+        Strip::true_from(i).not()
     }
 
+    #[tactic(auto, using(crate::proofs::Bits::bit_not))]
     fn not(self) -> Strip {
-        flipped(self)
+        Strip {
+            weak: !self.strong,
+            strong: !self.weak,
+        }
     }
 
+    #[tactic(auto, using(crate::proofs::Bits::bit_of_and))]
     fn and(self, other: Strip) -> Strip {
-        met(self, other)
+        Strip {
+            weak: self.weak & other.weak,
+            strong: self.strong & other.strong,
+        }
     }
 
+    #[tactic(auto, using(crate::proofs::Bits::bit_of_or))]
     fn or(self, other: Strip) -> Strip {
-        joined(self, other)
+        Strip {
+            weak: self.weak | other.weak,
+            strong: self.strong | other.strong,
+        }
     }
 
+    #[tactic(auto, using(crate::proofs::Bits::bit_of_and, crate::proofs::Bits::bit_of_or, crate::proofs::Bits::bit_not))]
     fn seen_from(self, i: usize) -> Strip {
-        opened_before(self, i)
+        let before = bits_before(i);
+        Strip {
+            weak: self.weak | before,
+            strong: self.strong & !before,
+        }
     }
 
     fn length() -> usize {
         REACH
     }
 
+    #[tactic(auto, unfolding(crate::specs::Masks::bit))]
     fn read(self, weak: bool, point: usize) -> bool {
         if point == 0 || point > REACH {
-            weak
-        } else if weak {
-            has_bit(self.weak, point - 1)
-        } else {
-            has_bit(self.strong, point - 1)
+            return weak;
         }
+        let mask = if weak { self.weak } else { self.strong };
+        (mask >> (point - 1)) % 2 == 1
     }
 }
 
 impl Strip {
-    // The point from which the label is true, or 0 if it is true at none.
+    // The point from which the label is true, or 0 if it is true at none: that of the lowest set bit.
+    #[tactic(auto, using(crate::proofs::Bits::bit_zero, crate::proofs::Bits::lowest_within, crate::proofs::Bits::lowest_here, crate::proofs::Bits::lowest_below))]
     pub fn date_of_truth(self) -> u32
         ensures never { self.strong ≡ 0 → result ≡ 0 }
         ensures ever { 0 < self.strong → result ≡ count_trailing_zeros 64 self.strong + 1 }
         ensures meaning { DateOf 64 (strip self.weak self.strong) result }
     {
-        lowest_point(self.strong)
+        if self.strong == 0 {
+            0
+        } else {
+            self.strong.trailing_zeros() + 1
+        }
     }
 }
 
 // Whether a dated label and a strip have the same date of truth. They have if they mean the same at the points from 1 to 64,
 // and the dated label does not become true after that.
+#[tactic(auto, using(labels::proofs::Dates::date_only, crate::proofs::Comparing::dates_agree))]
 pub fn same_date(a: Dated, b: Strip) -> bool
-    ensures dates { (d e : ℕ) → DateOf 256 (dated a.value) d → DateOf 64 (strip b.weak b.strong) e → result ≡ (d == e) }
-    ensures meaning { Same 64 (dated a.value) (strip b.weak b.strong) → TrueBy 64 256 (dated a.value) → result ≡ true }
-{
-    equal_dates(a, b)
-}
-
-// Whether the two dates of truth are the same number.
-fn equal_dates(a: Dated, b: Strip) -> bool
     ensures dates { (d e : ℕ) → DateOf 256 (dated a.value) d → DateOf 64 (strip b.weak b.strong) e → result ≡ (d == e) }
     ensures meaning { Same 64 (dated a.value) (strip b.weak b.strong) → TrueBy 64 256 (dated a.value) → result ≡ true }
 {
     a.date_of_truth() == b.date_of_truth() as usize
 }
 
-// True from point i on, and unknown before.
-fn true_since(i: usize) -> Strip
-    ensures { Same 64 (strip result.weak result.strong) (fixed i true) }
-{
-    Strip {
-        weak: !0,
-        strong: !bits_before(i),
-    }
-}
-
-fn flipped(label: Strip) -> Strip
-    ensures { Same 64 (strip result.weak result.strong) (negated (strip label.weak label.strong)) }
-{
-    Strip {
-        weak: !label.strong,
-        strong: !label.weak,
-    }
-}
-
-fn met(a: Strip, b: Strip) -> Strip
-    ensures { Same 64 (strip result.weak result.strong) (both (strip a.weak a.strong) (strip b.weak b.strong)) }
-{
-    Strip {
-        weak: a.weak & b.weak,
-        strong: a.strong & b.strong,
-    }
-}
-
-fn joined(a: Strip, b: Strip) -> Strip
-    ensures { Same 64 (strip result.weak result.strong) (either (strip a.weak a.strong) (strip b.weak b.strong)) }
-{
-    Strip {
-        weak: a.weak | b.weak,
-        strong: a.strong | b.strong,
-    }
-}
-
-// The same from point i on, and unknown before.
-fn opened_before(label: Strip, i: usize) -> Strip
-    ensures { Same 64 (strip result.weak result.strong) (seen i (strip label.weak label.strong)) }
-{
-    let before = bits_before(i);
-    Strip {
-        weak: label.weak | before,
-        strong: label.strong & !before,
-    }
-}
-
 // The bits of the points before i.
+#[tactic(auto, using(crate::proofs::Bits::bit_zero, crate::proofs::Bits::bit_shifted, crate::proofs::Bits::bit_all))]
 fn bits_before(i: usize) -> u64
-    ensures { result ≡ 2 ^ min 64 (i - 1) - 1 }
+    ensures { (k : ℕ) → k < 64 → bit result k ≡ nat_lt (k + 1) i }
 {
-    if i == 0 {
-        0
-    } else if i <= REACH {
-        (1 << (i - 1)) - 1
-    } else {
-        !0
-    }
-}
-
-// Bit k of the mask.
-fn has_bit(mask: u64, k: usize) -> bool
-    requires { k < 64 }
-    ensures { result ≡ bit mask k }
-{
-    (mask >> k) % 2 == 1
-}
-
-// The point of the lowest set bit, or 0 if no bit is set.
-fn lowest_point(mask: u64) -> u32
-    ensures none { mask ≡ 0 → result ≡ 0 }
-    ensures some { 0 < mask → result ≡ count_trailing_zeros 64 mask + 1 }
-    ensures within { result ≤ 64 }
-    ensures here { 0 < result → bit mask (result - 1) ≡ true }
-    ensures below { (k : ℕ) → k + 1 < result → bit mask k ≡ false }
-    ensures empty { result ≡ 0 → (k : ℕ) → k < 64 → bit mask k ≡ false }
-{
-    if mask == 0 {
-        0
-    } else {
-        mask.trailing_zeros() + 1
+    match i {
+        0 => 0,
+        1..=REACH => (1 << (i - 1)) - 1,
+        _ => !0,
     }
 }
