@@ -1,11 +1,11 @@
-use Rattle.std.proofs.Common.{◌≡◌, ℕ, ◌+◌, ◌-◌, ◌≤◌, List, ◌∷◌, length, take, drop, sym, ap, ◌∙◌, subst, refl, ◌⊎◌, ⊎_elim, MatchOption, MatchResult, Option, Some, None, ok_or, Result, Ok, Err, arith, length-append, length-drop}
+use Rattle.std.proofs.Common.{◌≡◌, ℕ, ◌+◌, ◌-◌, ◌≤◌, List, ◌∷◌, length, take, drop, sym, ap, ◌∙◌, subst, MatchResult, Option, Some, None, Result, Ok, Err, arith, length-append, length-drop}
 use Rattle.std.proofs.lemmas.List.{take_rest, drop-drop}
 use Rattle.faults.specs.declared.line.LineFault.{LineFault}
 use Rattle.faults.specs.declared.line.LineFault.TheVariants as fault
-use Rattle.fields.specs.Lines.{FirstLine, Torn}
+use Rattle.fields.specs.Lines.{FirstLine}
 use Rattle.fields.specs.declared.lines.Taken.{Taken}
-use Rattle.fields.specs.Reads.{FirstJudged, ReadsLine}
-use Rattle.fields.specs.Kinds.{Kind, Shows, Fits, Takes, Refuses, TakesLine, RefusesLine}
+use Rattle.fields.specs.Reads.{Fails, ReadsLine}
+use Rattle.fields.specs.Kinds.{Kind, Shows, Fits, Takes, Refuses, TakesLine, RefusesLine, ShowsNone}
 use Rattle.fields.proofs.Ends.{one_line}
 
 -- a kind whose lines show one value at most
@@ -66,44 +66,40 @@ module _ (K : Kind) (text line : List ℕ) where
         within = w;
       })
 
--- a judgement that is an option's value, or else a fault
-pub judged_by : {A E : Type 0} (N : Type 0) (P : A → Type 0) (Yes : A → Type 0) (No : E → Type 0) (o : Option A) (e : E) (r : Result A E)
-    → r ≡ ok_or o e → MatchOption o N P → ((x : A) → P x → Yes x) → (N → No e) → MatchResult r Yes No
-judged_by N P Yes No (Some x) e r h m f g = subst (λ z. MatchResult z Yes No) (sym h) (f x m)
-judged_by N P Yes No None e r h m f g = subst (λ z. MatchResult z Yes No) (sym h) (g m)
+-- from what the readers of a kind's form and ranges answer to what a text is read as
+module _ (K : Kind) {N T : Type 0} (Form : List ℕ → Option N → Type 0) (Range : N → Option T → Type 0) where
+  refused_as : (text : List ℕ) (place : ℕ) (e : LineFault)
+      → ((line : List ℕ) → Form line None → ShowsNone K line)
+      → ((line : List ℕ) (n : N) → Form line (Some n) → Range n None → (v : K.Value) × (line ≡ K.written v) × K.Formed v × (K.Ranged v → ⊥))
+      → Fails Form Range text place e → Refuses K text place e
+  refused_as text place (fault.Torn at) none out h = h
+  refused_as text place (fault.Form at) none out (p, j) = (p, (j.line, drop (length j.line + 1) text, j.first, none j.line j.says))
+  refused_as text place (fault.Range at) none out (p, j) =
+      let o = out j.line j.says.shown j.says.formed j.says.ranged in
+      (p, (o.0, drop (length j.line + 1) text, record { line = line_as K text j.line (drop (length j.line + 1) text) o.0 j.first o.1; formed = o.2 }, o.3))
 
--- what an option holds, where it is some value
-pub holds : {A : Type 0} (N : Type 0) (P : A → Type 0) (o : Option A) (x : A) → MatchOption o N P → o ≡ Some x → P x
-holds N P o x m e = subst (λ z. MatchOption z N P) e m
-
--- from what the lines of a kind are judged as to what a text is read as
-module _ (K : Kind) {T : Type 0} (Judgement : List ℕ → Result T LineFault → Type 0) where
-  refused_as : (text : List ℕ) (place : ℕ) (e : LineFault) → ((line : List ℕ) → Judgement line (Err e) → RefusesLine K line place e)
-      → ((e ≡ fault.Torn place) × Torn text) ⊎ FirstJudged Judgement text (Err e) → Refuses K text place e
-  refused_as text place e err d =
-      ⊎_elim
-      (λ (t : (e ≡ fault.Torn place) × Torn text). subst (Refuses K text place) (sym t.0) (refl, t.1))
-      (λ (j : FirstJudged Judgement text (Err e)). refused K text j.line _ place e j.first (err j.line j.judged))
-      d
-
-  pub read_as : (V : T → K.Value) (text : List ℕ) (place : ℕ) (r : Result (Taken T) LineFault) → ReadsLine Judgement text place r
-      → ((line : List ℕ) (v : T) → Judgement line (Ok v) → TakesLine K line (V v))
-      → ((line : List ℕ) (e : LineFault) → Judgement line (Err e) → RefusesLine K line place e)
-      → MatchResult r (λ a. Takes K text (V a.value) a.used) (λ e. Refuses K text place e)
-  read_as V text place (Ok a) h ok err =
-      let j = h.answer.0 in taken K text j.line (V a.value) a.used j.first (ok j.line a.value j.judged) h.answer.1
-  read_as V text place (Err e) h ok err = refused_as text place e (λ line. err line e) h.answer
-
-  -- the same where the answer is what a value of the kind means
-  pub read_meant : (Means : K.Value → T → Type 0) (text : List ℕ) (place : ℕ) (r : Result (Taken T) LineFault) → ReadsLine Judgement text place r
-      → ((line : List ℕ) (x : T) → Judgement line (Ok x) → (v : K.Value) × TakesLine K line v × Means v x)
-      → ((line : List ℕ) (e : LineFault) → Judgement line (Err e) → RefusesLine K line place e)
+  -- the answer is what a value of the kind means
+  pub read_meant : (Means : K.Value → T → Type 0) (text : List ℕ) (place : ℕ) (r : Result (Taken T) LineFault) → ReadsLine Form Range text place r
+      → ((line : List ℕ) (n : N) (x : T) → Form line (Some n) → Range n (Some x) → (v : K.Value) × TakesLine K line v × Means v x)
+      → ((line : List ℕ) → Form line None → ShowsNone K line)
+      → ((line : List ℕ) (n : N) → Form line (Some n) → Range n None → (v : K.Value) × (line ≡ K.written v) × K.Formed v × (K.Ranged v → ⊥))
       → MatchResult r (λ a. (v : K.Value) × Takes K text v a.used × Means v a.value) (λ e. Refuses K text place e)
-  read_meant Means text place (Ok a) h ok err =
+  read_meant Means text place (Ok a) h some none out =
       let j = h.answer.0 in
-      let t = ok j.line a.value j.judged in
+      let t = some j.line j.says.shown a.value j.says.formed j.says.ranged in
       (t.0, taken K text j.line t.0 a.used j.first t.1 h.answer.1, t.2)
-  read_meant Means text place (Err e) h ok err = refused_as text place e (λ line. err line e) h.answer
+  read_meant Means text place (Err e) h some none out = refused_as text place e none out h.answer
+
+  -- the same where the value is a function of the answer
+  pub read_as : (V : T → K.Value) (text : List ℕ) (place : ℕ) (r : Result (Taken T) LineFault) → ReadsLine Form Range text place r
+      → ((line : List ℕ) (n : N) (x : T) → Form line (Some n) → Range n (Some x) → TakesLine K line (V x))
+      → ((line : List ℕ) → Form line None → ShowsNone K line)
+      → ((line : List ℕ) (n : N) → Form line (Some n) → Range n None → (v : K.Value) × (line ≡ K.written v) × K.Formed v × (K.Ranged v → ⊥))
+      → MatchResult r (λ a. Takes K text (V a.value) a.used) (λ e. Refuses K text place e)
+  read_as V text place (Ok a) h some none out =
+      let j = h.answer.0 in
+      taken K text j.line (V a.value) a.used j.first (some j.line j.says.shown a.value j.says.formed j.says.ranged) h.answer.1
+  read_as V text place (Err e) h some none out = refused_as text place e none out h.answer
 
 taken_of : {T : Type 0} → T → ℕ → Taken T
 taken_of v u = record { value = v; used = u }

@@ -1,18 +1,31 @@
--- What a text that should begin with a line is read as.
-use Rattle.std.specs.Prelude.{◌≡◌, ℕ, ◌+◌, ◌⊎◌, List, length, drop, Ok, Err, Result, MatchResult}
+-- What a text that should begin with a line is read as, by a reader of the line's form and one of its ranges. `Form line o` says
+-- that the line may be read as o, and `Range shown o` that what it shows may be.
+use Rattle.std.specs.Prelude.{◌≡◌, ℕ, ◌+◌, List, length, drop, Some, None, Option, Result, MatchResult}
 use Rattle.faults.specs.declared.line.LineFault.{LineFault}
 use Rattle.faults.specs.declared.line.LineFault.TheVariants as fault
 use Rattle.fields.specs.Lines.{FirstLine, Torn}
 use Rattle.fields.specs.declared.lines.Taken.{Taken}
 
--- a judge says this of the first line
-pub record FirstJudged {R : Type 0} (Judged : List ℕ → R → Type 0) (text : List ℕ) (r : R) : Type 0 where
+-- this is said of the first line
+pub record OfFirst (Says : List ℕ → Type 0) (text : List ℕ) : Type 0 where
   pub line : List ℕ
   pub first : FirstLine text line (drop (length line + 1) text)
-  pub judged : Judged line r
+  pub says : Says line
 
--- There is no first line, or the answer is what a judge says of it.
-pub record ReadsLine {T : Type 0} (Judged : List ℕ → Result T LineFault → Type 0) (text : List ℕ) (place : ℕ) (r : Result (Taken T) LineFault) : Type 0 where
-  pub answer : MatchResult r
-      (λ a. (j : FirstJudged Judged text (Ok a.value)) × (a.used ≡ length j.line + 1))
-      (λ e. ((e ≡ fault.Torn place) × Torn text) ⊎ FirstJudged Judged text (Err e))
+module _ {N T : Type 0} (Form : List ℕ → Option N → Type 0) (Range : N → Option T → Type 0) where
+  -- the line shows something, of which the ranges give o
+  pub record Shown (o : Option T) (line : List ℕ) : Type 0 where
+    pub shown : N
+    pub formed : Form line (Some shown)
+    pub ranged : Range shown o
+
+  -- the fault that fits
+  abbrev pub Fails : (text : List ℕ) → (place : ℕ) → LineFault → Type 0
+  Fails text place (fault.Torn at) = (at ≡ place) × Torn text
+  Fails text place (fault.Form at) = (at ≡ place) × OfFirst (λ line. Form line None) text
+  Fails text place (fault.Range at) = (at ≡ place) × OfFirst (Shown None) text
+
+  pub record ReadsLine (text : List ℕ) (place : ℕ) (r : Result (Taken T) LineFault) : Type 0 where
+    pub answer : MatchResult r
+        (λ a. (j : OfFirst (Shown (Some a.value)) text) × (a.used ≡ length j.line + 1))
+        (Fails text place)

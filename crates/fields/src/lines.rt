@@ -1,5 +1,5 @@
 ghost use Rattle.std.specs.Prelude.{◌≡◌, ◌+◌, length, drop, MatchResult};
-ghost use Rattle.std.specs.Fn.{FnOnceReturnsAt};
+ghost use Rattle.std.specs.Fn.{FnOnceReturns, FnOnceReturnsAt};
 ghost use Rattle.fields.specs.Lines.{FirstLine, Torn};
 ghost use Rattle.fields.specs.Reads.{ReadsLine};
 
@@ -33,17 +33,20 @@ pub fn bytes_of(line: &[u8]) -> usize
     line.len() + 1
 }
 
-// What a text's first line is judged as; `place` is the line's, for a refusal.
-pub fn read_line<T: Drop, F: FnOnce(&[u8]) -> Result<T, LineFault>>(
+// What a text's first line shows, by its form and then by its ranges; `place` is the line's, for a refusal.
+pub fn read_line<N: Drop, T: Drop, F: FnOnce(&[u8]) -> Option<N>, G: FnOnce(N) -> Option<T>>(
     text: &[u8],
     place: usize,
-    judge: F,
+    form: F,
+    range: G,
 ) -> Result<Taken<T>, LineFault>
-    requires { F.IsAlwaysCallable judge }
-    ensures { ReadsLine (FnOnceReturnsAt F.FnOnce judge) text.now place result }
+    requires form { F.IsAlwaysCallable form }
+    requires range { G.IsAlwaysCallable range }
+    ensures { ReadsLine (FnOnceReturnsAt F.FnOnce form) (λ n. FnOnceReturns G.FnOnce range (n, tt)) text.now place result }
 {
     let line = first_line(text, place)?;
-    let value = judge(line)?;
+    let shown = form(line).ok_or(LineFault::Form(place))?;
+    let value = range(shown).ok_or(LineFault::Range(place))?;
     Ok(Taken {
         value,
         used: bytes_of(line),

@@ -32,13 +32,6 @@ fn count_of(number: u64, most: usize) -> Option<usize>
     Some(count)
 }
 
-fn judge(line: &[u8], place: usize, key: CountKey, most: usize) -> Result<usize, LineFault>
-    ensures { MatchResult result (λ n. TakesLine (count_kind (count_text key) most) line.now n) (λ e. RefusesLine (count_kind (count_text key) most) line.now place e) }
-{
-    let number = number_of(line, key).ok_or(LineFault::Form(place))?;
-    count_of(number, most).ok_or(LineFault::Range(place))
-}
-
 // A line of one key and a count from 1 to `most`; `place` is the line's, for a refusal.
 pub fn read_count(
     text: &[u8],
@@ -48,5 +41,10 @@ pub fn read_count(
 ) -> Result<Taken<usize>, LineFault>
     ensures { MatchResult result (λ a. Takes (count_kind (count_text key) most) text.now a.value a.used) (λ e. Refuses (count_kind (count_text key) most) text.now place e) }
 {
-    read_line(text, place, |line| judge(line, place, key, most))
+    read_line(
+        text,
+        place,
+        |line| number_of(line, key),
+        |number| count_of(number, most),
+    )
 }

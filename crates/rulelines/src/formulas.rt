@@ -20,16 +20,9 @@ fn formula_in(entry: Entry, k: usize) -> Option<Formula>
     Some(formula_of(entry.operator, entry.a, entry.b))
 }
 
-fn judge(line: &[u8], place: usize, k: usize) -> Result<Formula, LineFault>
-    ensures { MatchResult result (λ φ. (v : Entry) × TakesLine (formula_kind k) line.now v × (φ ≡ meaning v)) (λ e. RefusesLine (formula_kind k) line.now place e) }
-{
-    let entry = entry_of(line).ok_or(LineFault::Form(place))?;
-    formula_in(entry, k).ok_or(LineFault::Range(place))
-}
-
 // The formula that the first line of a text shows as number k; `place` is the line's, for a refusal.
 pub fn read_formula(text: &[u8], place: usize, k: usize) -> Result<Taken<Formula>, LineFault>
     ensures { MatchResult result (λ a. FormulaTaken text.now k a.value a.used) (λ e. Refuses (formula_kind k) text.now place e) }
 {
-    read_line(text, place, |line| judge(line, place, k))
+    read_line(text, place, entry_of, |entry| formula_in(entry, k))
 }

@@ -47,16 +47,9 @@ fn rule_of(v: Numbers, k: usize) -> Option<Rule>
     })
 }
 
-fn judge(line: &[u8], place: usize, k: usize) -> Result<Rule, LineFault>
-    ensures { MatchResult result (λ u. TakesLine (rule_kind k) line.now (k, u)) (λ e. RefusesLine (rule_kind k) line.now place e) }
-{
-    let numbers = numbers_of(line).ok_or(LineFault::Form(place))?;
-    rule_of(numbers, k).ok_or(LineFault::Range(place))
-}
-
 // The rule that the first line of a text shows as number k; `place` is the line's, for a refusal.
 pub fn read_rule(text: &[u8], place: usize, k: usize) -> Result<Taken<Rule>, LineFault>
     ensures { MatchResult result (λ a. Takes (rule_kind k) text.now (k, a.value) a.used) (λ e. Refuses (rule_kind k) text.now place e) }
 {
-    read_line(text, place, |line| judge(line, place, k))
+    read_line(text, place, numbers_of, |numbers| rule_of(numbers, k))
 }

@@ -1,10 +1,9 @@
 // Rules texts that are refused.
 use crate::asks::all_stopped;
-use std::test::Fail;
 
 #[test]
-fn counts(rt: HostRuntime) -> Result<(), Fail> {
-    all_stopped(&rt, &[b"formulas=0\n", b"formulas=65\n"], 3, 1)?;
+fn counts(rt: HostRuntime) {
+    all_stopped(&rt, &[b"formulas=0\n", b"formulas=65\n"], 3, 1);
     all_stopped(
         &rt,
         &[
@@ -16,7 +15,7 @@ fn counts(rt: HostRuntime) -> Result<(), Fail> {
         ],
         2,
         1,
-    )?;
+    );
     all_stopped(
         &rt,
         &[
@@ -25,7 +24,7 @@ fn counts(rt: HostRuntime) -> Result<(), Fail> {
         ],
         3,
         5,
-    )?;
+    );
     all_stopped(
         &rt,
         &[
@@ -33,11 +32,11 @@ fn counts(rt: HostRuntime) -> Result<(), Fail> {
         ],
         2,
         5,
-    )
+    );
 }
 
 #[test]
-fn formula_forms(rt: HostRuntime) -> Result<(), Fail> {
+fn formula_forms(rt: HostRuntime) {
     all_stopped(
         &rt,
         &[
@@ -47,7 +46,7 @@ fn formula_forms(rt: HostRuntime) -> Result<(), Fail> {
         ],
         2,
         2,
-    )?;
+    );
     all_stopped(
         &rt,
         &[
@@ -57,17 +56,17 @@ fn formula_forms(rt: HostRuntime) -> Result<(), Fail> {
         ],
         2,
         3,
-    )?;
+    );
     all_stopped(
         &rt,
         &[b"formulas=3\nf=0 op=signal a=0 b=0\nf=1 op=signal a=1 b=0\nf=2 op=Next a=1 b=0\n"],
         2,
         4,
-    )
+    );
 }
 
 #[test]
-fn formula_ranges(rt: HostRuntime) -> Result<(), Fail> {
+fn formula_ranges(rt: HostRuntime) {
     all_stopped(
         &rt,
         &[
@@ -78,7 +77,7 @@ fn formula_ranges(rt: HostRuntime) -> Result<(), Fail> {
         ],
         3,
         2,
-    )?;
+    );
     all_stopped(
         &rt,
         &[
@@ -88,7 +87,7 @@ fn formula_ranges(rt: HostRuntime) -> Result<(), Fail> {
         ],
         3,
         3,
-    )?;
+    );
     all_stopped(
         &rt,
         &[
@@ -98,19 +97,19 @@ fn formula_ranges(rt: HostRuntime) -> Result<(), Fail> {
         ],
         3,
         4,
-    )
+    );
 }
 
 // A part is below its formula.
 #[test]
-fn parts(rt: HostRuntime) -> Result<(), Fail> {
-    all_stopped(&rt, &[b"formulas=3\nf=0 op=not a=0 b=0\n"], 4, 2)?;
+fn parts(rt: HostRuntime) {
+    all_stopped(&rt, &[b"formulas=3\nf=0 op=not a=0 b=0\n"], 4, 2);
     all_stopped(
         &rt,
         &[b"formulas=3\nf=0 op=signal a=0 b=0\nf=1 op=and a=0 b=1\n"],
         4,
         3,
-    )?;
+    );
     all_stopped(
         &rt,
         &[
@@ -119,11 +118,11 @@ fn parts(rt: HostRuntime) -> Result<(), Fail> {
         ],
         4,
         4,
-    )
+    );
 }
 
 #[test]
-fn rule_lines(rt: HostRuntime) -> Result<(), Fail> {
+fn rule_lines(rt: HostRuntime) {
     all_stopped(
         &rt,
         &[
@@ -132,7 +131,7 @@ fn rule_lines(rt: HostRuntime) -> Result<(), Fail> {
         ],
         3,
         6,
-    )?;
+    );
     all_stopped(
         &rt,
         &[
@@ -140,7 +139,7 @@ fn rule_lines(rt: HostRuntime) -> Result<(), Fail> {
         ],
         2,
         6,
-    )?;
+    );
     all_stopped(
         &rt,
         &[
@@ -149,12 +148,12 @@ fn rule_lines(rt: HostRuntime) -> Result<(), Fail> {
         ],
         4,
         6,
-    )
+    );
 }
 
 // A rule may not name a formula that speaks of an unbound variable.
 #[test]
-fn loose_rules(rt: HostRuntime) -> Result<(), Fail> {
+fn loose_rules(rt: HostRuntime) {
     all_stopped(
         &rt,
         &[
@@ -163,5 +162,5 @@ fn loose_rules(rt: HostRuntime) -> Result<(), Fail> {
         ],
         5,
         6,
-    )
+    );
 }

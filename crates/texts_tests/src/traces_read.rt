@@ -1,28 +1,27 @@
 // Trace lines.
 use crate::asks::{all_refused, taken};
-use std::test::Fail;
 
 #[test]
-fn good_lines(rt: HostRuntime) -> Result<(), Fail> {
-    taken(&rt, b"s=1 signals=1 mark=0 ka=0 ta=0 kb=0 tb=0\n", 0, 41)?;
+fn good_lines(rt: HostRuntime) {
+    taken(&rt, b"s=1 signals=1 mark=0 ka=0 ta=0 kb=0 tb=0\n", 0, 41);
     taken(
         &rt,
         b"s=1 signals=1 mark=0 ka=0 ta=0 kb=0 tb=0\nrest",
         0,
         41,
-    )?;
+    );
     taken(
         &rt,
         b"s=256 signals=4294967295 mark=255 ka=15 ta=256 kb=15 tb=256\n",
         255,
         60,
-    )?;
-    taken(&rt, b"s=2 signals=0 mark=7 ka=1 ta=1 kb=0 tb=0\n", 1, 41)
+    );
+    taken(&rt, b"s=2 signals=0 mark=7 ka=1 ta=1 kb=0 tb=0\n", 1, 41);
 }
 
 // No line end within the first 81 bytes.
 #[test]
-fn torn_lines(rt: HostRuntime) -> Result<(), Fail> {
+fn torn_lines(rt: HostRuntime) {
     all_refused(
         &rt,
         &[
@@ -34,7 +33,7 @@ fn torn_lines(rt: HostRuntime) -> Result<(), Fail> {
         ],
         0,
         1,
-    )?;
+    );
     all_refused(
         &rt,
         &[
@@ -43,11 +42,11 @@ fn torn_lines(rt: HostRuntime) -> Result<(), Fail> {
         ],
         0,
         2,
-    )
+    );
 }
 
 #[test]
-fn spaces_and_ends(rt: HostRuntime) -> Result<(), Fail> {
+fn spaces_and_ends(rt: HostRuntime) {
     all_refused(
         &rt,
         &[
@@ -60,11 +59,11 @@ fn spaces_and_ends(rt: HostRuntime) -> Result<(), Fail> {
         ],
         0,
         2,
-    )
+    );
 }
 
 #[test]
-fn keys(rt: HostRuntime) -> Result<(), Fail> {
+fn keys(rt: HostRuntime) {
     all_refused(
         &rt,
         &[
@@ -78,11 +77,11 @@ fn keys(rt: HostRuntime) -> Result<(), Fail> {
         ],
         0,
         2,
-    )
+    );
 }
 
 #[test]
-fn number_forms(rt: HostRuntime) -> Result<(), Fail> {
+fn number_forms(rt: HostRuntime) {
     all_refused(
         &rt,
         &[
@@ -96,11 +95,11 @@ fn number_forms(rt: HostRuntime) -> Result<(), Fail> {
         ],
         0,
         2,
-    )
+    );
 }
 
 #[test]
-fn ranges(rt: HostRuntime) -> Result<(), Fail> {
+fn ranges(rt: HostRuntime) {
     all_refused(
         &rt,
         &[
@@ -113,34 +112,34 @@ fn ranges(rt: HostRuntime) -> Result<(), Fail> {
         ],
         0,
         3,
-    )?;
-    all_refused(&rt, &[b"s=1 signals=1 mark=0 ka=0 ta=0 kb=0 tb=0\n"], 1, 3)?;
+    );
+    all_refused(&rt, &[b"s=1 signals=1 mark=0 ka=0 ta=0 kb=0 tb=0\n"], 1, 3);
     all_refused(
         &rt,
         &[b"s=257 signals=257 mark=0 ka=0 ta=0 kb=0 tb=0\n"],
         256,
         3,
-    )
+    );
 }
 
 #[test]
-fn form_before_range(rt: HostRuntime) -> Result<(), Fail> {
+fn form_before_range(rt: HostRuntime) {
     all_refused(
         &rt,
         &[b"s=9 signals=1 mark=300 ka=0 ta=0 kb=0 tb=x\n"],
         0,
         2,
-    )?;
+    );
     all_refused(
         &rt,
         &[b"s=9 signals=1 mark=300 ka=0 ta=0 kb=0 tb=0\n"],
         0,
         3,
-    )
+    );
 }
 
 #[test]
-fn odd_bytes(rt: HostRuntime) -> Result<(), Fail> {
+fn odd_bytes(rt: HostRuntime) {
     all_refused(
         &rt,
         &[
@@ -151,5 +150,5 @@ fn odd_bytes(rt: HostRuntime) -> Result<(), Fail> {
         ],
         0,
         2,
-    )
+    );
 }

@@ -1,6 +1,6 @@
 ghost use Rattle.std.specs.Prelude.{◌≡◌, ◌+◌, ◌≤◌, MatchOption};
 ghost use Rattle.traces.specs.Traces.{Allowed, Reads};
-ghost use Rattle.traces.specs.Shown.{state_of, Judged};
+ghost use Rattle.traces.specs.Shown.{state_of};
 
 use crate::numbers::{Numbers, numbers_of};
 use faults::line::LineFault;
@@ -41,17 +41,9 @@ fn state_of(v: Numbers, count: usize) -> Option<State>
     })
 }
 
-// The state that a line shows after a count of states.
-fn judge(line: &[u8], count: usize) -> Result<State, LineFault>
-    ensures { Judged line.now count result }
-{
-    let numbers = numbers_of(line).ok_or(LineFault::Form(1))?;
-    state_of(numbers, count).ok_or(LineFault::Range(1))
-}
-
 // The state that the first line of a text shows, after a count of states.
 pub fn read_state(text: &[u8], count: usize) -> Result<Taken<State>, LineFault>
     ensures { Reads text.now count result }
 {
-    read_line(text, 1, |line| judge(line, count))
+    read_line(text, 1, numbers_of, |numbers| state_of(numbers, count))
 }
