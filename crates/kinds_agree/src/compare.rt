@@ -29,12 +29,7 @@ fn same_readings<A: LabelKind + Copy, B: LabelKind + Copy>(a: A, b: B) -> bool
     ensures told { 64 ≤ A.LabelKind.reach → 64 ≤ B.LabelKind.reach → result ≡ true → Same 64 (A.LabelKind.reads a) (B.LabelKind.reads b) }
     ensures found { 64 ≤ A.LabelKind.reach → 64 ≤ B.LabelKind.reach → Same 64 (A.LabelKind.reads a) (B.LabelKind.reads b) → result ≡ true }
 {
-    for place in 0..POINTS {
-        if !same_at(a, b, place + 1) {
-            return false;
-        }
-    }
-    true
+    (1..=POINTS).all(|point| same_at(a, b, point))
 }
 
 // Whether the labels of two lists have the same readings, one by one.
@@ -42,15 +37,7 @@ fn same_labels<A: LabelKind + Copy, B: LabelKind + Copy>(first: &[A], second: &[
     ensures lengths { result ≡ true → length first.now ≡ length second.now }
     ensures told { 64 ≤ A.LabelKind.reach → 64 ≤ B.LabelKind.reach → result ≡ true → SameTo A.LabelKind.reads B.LabelKind.reads first.now second.now (length first.now) }
 {
-    if first.len() != second.len() {
-        return false;
-    }
-    for k in 0..first.len() {
-        if !same_readings(first[k], second[k]) {
-            return false;
-        }
-    }
-    true
+    first.len() == second.len() && first.iter().zip(second).all(|(a, b)| same_readings(*a, *b))
 }
 
 // Labels the log in both kinds. Cells without a label are unknown in both.

@@ -29,7 +29,7 @@ fn state(signals: u32, named: bool, first: Reference) -> State
         signals,
         nominal: u8::from(named),
         first,
-        second: NO_REFERENCE,
+        ..State::default()
     }
 }
 

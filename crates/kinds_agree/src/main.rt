@@ -20,13 +20,9 @@ const LOGS: usize = 1024;
 fn count_agreeing(table: &Table) -> usize
     ensures { result ≤ 1024 }
 {
-    let mut count = 0;
-    for k in 0..LOGS {
-        if kinds_agree(table, &numbered_log(k)) {
-            count += 1;
-        }
-    }
-    count
+    (0..LOGS)
+        .filter(|k| kinds_agree(table, &numbered_log(*k)))
+        .count()
 }
 
 fn main(rt: HostRuntime) -> io::Result<()> {

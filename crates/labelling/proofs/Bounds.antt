@@ -28,9 +28,6 @@ module _ {K : Type 0} (reads : K → Reading) (reach n : ℕ) (s : Trace) (table
     pub told_start : (xs : List K) → ClosedTold reads reach n s table xs m → ToldTo reads reach n s table wanted v xs m 0
     told_start xs h g less which = h g v less (false_from_ne_true (loose table g) (λ l. omega (arith, (which l).1)))
 
-    pub told_end : (xs : List K) (k : ℕ) → m ≤ k → ToldTo reads reach n s table wanted v xs m k → AllTold reads reach n s table wanted v xs m
-    told_end xs k le h g less ready = h g less (λ l. (ready l, omega arith))
-
     pub told_skip : (xs : List K) (g : ℕ) → get_or wanted g false ≡ false → ToldTo reads reach n s table wanted v xs m g → ToldTo reads reach n s table wanted v xs m (g + 1)
     told_skip xs g not_so h k less which =
         h k less (λ l.

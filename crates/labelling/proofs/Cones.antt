@@ -1,5 +1,5 @@
 -- The loose rows that a row is made of. Assumes nothing.
-use Rattle.std.proofs.Common.{◌≡◌, ℕ, ◌+◌, ◌<◌, ◌≤◌, Bool, true, false, ◌≢◌, List, length, get_or, set, sym, refl, ap, ◌∙◌, subst, inl, inr, ⊎_elim, arith, get_or-set_other, get_or-set_same}
+use Rattle.std.proofs.Common.{◌≡◌, ℕ, ◌+◌, ◌<◌, ◌≤◌, Bool, true, false, List, length, get_or, sym, ap, ◌∙◌, subst, ⊎_elim, arith}
 use Rattle.std.proofs.lemmas.Bool.{cases_lt, cases_eq, true≢false}
 use Rattle.logic.specs.declared.types.Formula.{Formula}
 use Rattle.logic.specs.declared.types.Formula.TheVariants.{True}
@@ -15,30 +15,6 @@ ConeFrom table flags wanted a k =
     × Wanted flags wanted a
 
 module _ (flags : List Bool) where
-  pub grown_set : (x : ℕ) (old : List Bool) → x < length old → get_or flags x false ≡ true → Grown (x + 1) flags old (set old x true)
-  grown_set x old fits flag k =
-      ⊎_elim
-      (λ (e : k ≡ x).
-      let now : get_or (set old x true) k false ≡ true = ap (λ j. get_or (set old x true) j false) e ∙ get_or-set_same old x true false fits in
-      ((λ h. now), (λ le. absurd (omega arith)), (λ h. inr (ap (λ j. get_or flags j false) e ∙ flag))))
-      (λ (ne : k ≢ x).
-      let same : get_or (set old x true) k false ≡ get_or old k false = get_or-set_other old x k true false ne in
-      ((λ h. same ∙ h), (λ le. same), (λ h. inl (sym same ∙ h))))
-      (cases_eq k x)
-
-  pub grown_none : (f : ℕ) (old : List Bool) → Grown f flags old old
-  grown_none f old k = ((λ h. h), (λ le. refl), (λ h. inl h))
-
-  pub grown_both : (f x y : ℕ) (a b c : List Bool) → x < f → y < f → Grown (x + 1) flags a b → Grown (y + 1) flags b c → Grown f flags a c
-  grown_both f x y a b c lx ly g h k = (
-    (λ w. (h k).0 ((g k).0 w)),
-    (λ le. (h k).1 (omega arith) ∙ (g k).1 (omega arith)),
-    (λ w. ⊎_elim (λ z. (g k).2 z) inr ((h k).2 w)),
-  )
-
-  pub grown_one : (f x : ℕ) (a b : List Bool) → x < f → Grown (x + 1) flags a b → Grown f flags a b
-  grown_one f x a b lx g k = ((g k).0, (λ le. (g k).1 (omega arith)), (g k).2)
-
   pub wanted_grown : (f : ℕ) (a b : List Bool) (x : ℕ) → Grown f flags a b → Wanted flags a x → Wanted flags b x
   wanted_grown f a b x g w = λ l. (g x).0 (w l)
 

@@ -13,9 +13,6 @@ abbrev pub DecidedTo : {K : Type 0} → (K → Reading) → (reach : ℕ) → (�
 DecidedTo reads reach G xs m = (i : ℕ) (e : Bool) (c : ℕ) → 0 < i → i ≤ m → 0 < c → c ≤ reach → Decides (at reads xs i e c) (G i e c)
 
 module _ {K : Type 0} (reads : K → Reading) (reach : ℕ) (G : ℕ → Bool → ℕ → Type 0) where
-  pub decided_none : (xs : List K) → DecidedTo reads reach G xs 0
-  decided_none xs i e c pos le lo hi = absurd (omega arith)
-
   pub decided_more : (xs : List K) (t : ℕ) (v : K) → t < length xs → ((e : Bool) (c : ℕ) → 0 < c → c ≤ reach → Decides (reads v e c) (G (t + 1) e c))
       → DecidedTo reads reach G xs t → DecidedTo reads reach G (set xs t v) (t + 1)
   decided_more xs t v fits is-v inv i e c pos le lo hi =

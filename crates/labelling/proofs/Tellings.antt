@@ -31,9 +31,6 @@ absorbed : (e z : Bool) → (e || (e && z)) ≡ e
 absorbed true z = refl
 absorbed false z = refl
 
-truly : (b : Bool) → Decides b (b ≡ true)
-truly b = ((λ h. h), (λ h. h))
-
 module _ {K : Type 0} (reads : K → Reading) (reach n : ℕ) (s : Trace) (v : ℕ) where
   -- past the point, or past the last state, a row that tells of a formula is unknown
   pub tells_past : (φ : Tree) (xs : List K) → Tells reads reach n s v φ xs → (e : Bool) (c i : ℕ) → 0 < c → c ≤ reach → min c n < i → at reads xs i e c ≡ e

@@ -3,7 +3,7 @@ ghost use Rattle.std.specs.Prelude.{◌≡◌, ℕ, ◌+◌, ◌*◌, ◌<◌, �
 ghost use Rattle.labels.specs.Readings.{Same, opened};
 ghost use Rattle.table.specs.Tables.{formulas_of};
 ghost use Rattle.labelling.specs.Bound.{Published};
-ghost use Rattle.labelling.specs.Whole.{LabelOf, place, Answered};
+ghost use Rattle.labelling.specs.Whole.{LabelOf, Labelled, place, Answered};
 
 use crate::job::Job;
 use crate::rows::{clear, row_of};
@@ -30,8 +30,8 @@ impl<'a, R: Readable> Job<'a, R> {
         }
     }
 
-    // Labels the states: the rows are filled in the working memory, published and cleared.
-    fn label_all<K: LabelKind + Copy>(&self, cells: &mut [K], work: &mut [K])
+    // Fills the rows in the working memory, publishes them, and makes the working memory unknown.
+    fn label_rows<K: LabelKind + Copy>(&self, cells: &mut [K], work: &mut [K])
         requires { (length work.old ≡ length self.now.table.now * self.now.n) × (length cells.old ≡ length self.now.table.now * self.now.n) }
         ensures labels { (f i : ℕ) → f < length self.now.table.now → 1 ≤ i → i ≤ self.now.n → (d : K) → LabelOf K.reads K.reach self.now.table.now (R.states self.now.log.now) f i (slice_index_or cells.new (place self.now.n f i) d) }
         ensures cleared { (k : ℕ) (d : K) → k < length work.old → Same K.reach (K.reads (slice_index_or work.new k d)) opened }
@@ -39,6 +39,16 @@ impl<'a, R: Readable> Job<'a, R> {
         self.label_table(work);
         self.publish(work, cells);
         clear(work);
+    }
+
+    // Labels the states, in as many cells of both memories as there are formulas times states.
+    fn label_all<K: LabelKind + Copy>(&self, labels: &mut [K], work: &mut [K])
+        requires short { (self.now.n ≤ 256) × (self.now.n ≤ K.reach) }
+        requires roomy { (length self.now.table.now * self.now.n ≤ length labels.old) × (length self.now.table.now * self.now.n ≤ length work.old) }
+        ensures { Labelled K.reads K.reach self.now.table.now (R.states self.now.log.now) labels.old work.old labels.new work.new }
+    {
+        let total = self.table.len() * self.n;
+        self.label_rows(&mut labels[..total], &mut work[..total]);
     }
 }
 
@@ -70,6 +80,6 @@ pub fn label_whole<K: LabelKind + Copy, R: Readable>(
         table: formulas,
         flags: table.loose(),
     };
-    job.label_all(&mut labels[..total], &mut work[..total]);
+    job.label_all(labels, work);
     Ok(n)
 }

@@ -1,9 +1,9 @@
 // States and tables for the tests, and the number by which a labelling is refused.
+use faults::fault::Fault;
 use labelling::whole::label_whole;
 use labels::LabelKind;
 use labels::dated::Dated;
 use logic::types::{Formula, Reference, Rule, State};
-use records::readable::NO_REFERENCE;
 use records::rows::Rows;
 use refusals::Refusal;
 use std::process::Abort;
@@ -13,24 +13,23 @@ use table::draft::Draft;
 use table::finished::Table;
 
 pub fn plain(signals: u32) -> State {
-    named(signals, 0)
+    State {
+        signals,
+        ..State::default()
+    }
 }
 
 pub fn named(signals: u32, nominal: u8) -> State {
     State {
-        signals,
         nominal,
-        first: NO_REFERENCE,
-        second: NO_REFERENCE,
+        ..plain(signals)
     }
 }
 
 pub fn referring(signals: u32, kind: u8, target: u16) -> State {
     State {
-        signals,
-        nominal: 0,
-        first: NO_REFERENCE,
         second: Reference { kind, target },
+        ..plain(signals)
     }
 }
 
@@ -49,10 +48,7 @@ fn drafted(formulas: &[Formula]) -> Result<Table, Defect> {
 }
 
 pub fn table_of(formulas: &[Formula]) -> Result<Table, Fail> {
-    match drafted(formulas) {
-        Ok(table) => Ok(table),
-        Err(_) => Err(Fail::new("no table")),
-    }
+    drafted(formulas).map_err(|_| Fail::new("no table"))
 }
 
 // The refusal's number and place, or 0 and the number of states.
@@ -73,23 +69,22 @@ pub fn has_labels(
     let table = table_of(formulas)?;
     let mut labels = [Dated::true_from(9); 64];
     let mut work = [Dated::true_from(9); 64];
-    let n = log.len();
     assert_eq!(rt;
         outcome(label_whole(&table, &Rows::new(log), &mut labels, &mut work)).0,
         0
     );
-    assert!(rt; n == expected.len() && n <= 64 && formulas.len() <= 64 && formulas.len() > 0);
-    for place in 0..n {
-        let at = (formulas.len() - 1) * n + place;
-        assert!(rt; at < labels.len() && labels[at].value() == expected[place]);
-    }
+    let n = log.len();
+    assert!(rt; n == expected.len() && n <= 64 && formulas.len() <= 64 && !formulas.is_empty());
+    let last = (formulas.len() - 1) * n;
+    assert!(rt; last + n <= labels.len());
+    has_values(rt, &labels[last..last + n], expected);
     Ok(())
 }
 
 // The cells hold labels with these numbers.
 pub fn has_values(rt: &impl Abort, cells: &[Dated], expected: &[i16]) {
     assert!(rt; cells.len() == expected.len());
-    for k in 0..expected.len() {
-        assert_eq!(rt; cells[k].value(), expected[k]);
+    for (cell, value) in cells.iter().zip(expected) {
+        assert_eq!(rt; cell.value(), *value);
     }
 }

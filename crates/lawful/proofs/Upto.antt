@@ -41,6 +41,11 @@ any_upto n P false h = (
   (λ w. absurd (h (w.0 - 1) 0 (omega arith) (omega (arith, w.1, w.2, length-range_with_len 1 n)) (subst P (sym (at-upto n w.0 w.1 w.2)) w.3))),
 )
 
+-- what `all` says
+pub all_upto : (n : ℕ) (P : ℕ → Type 0) (Q : Type 0) (r : Bool) → MatchBool r (AllWithin P (range_with_len 1 n) 0 (length (range_with_len 1 n))) Q → r ≡ true → (i : ℕ) → 1 ≤ i → i ≤ n → P i
+all_upto n P Q true h t i one le = subst P (at-upto n i one le) (h (i - 1) 0 (omega arith) (omega (arith, length-range_with_len 1 n)))
+all_upto n P Q false h t i one le = absurd (false≢true t)
+
 -- what `find` says
 pub find_upto : (n : ℕ) (P : ℕ → Type 0) (r : Option ℕ)
     → MatchOption r (AllWithin (λ i. P i → ⊥) (range_with_len 1 n) 0 (length (range_with_len 1 n))) (λ x. P x × (i : ℕ) × (i < length (range_with_len 1 n)) × HoldsAt (λ y. y ≡ x) (range_with_len 1 n) i × AllWithin (λ i. P i → ⊥) (range_with_len 1 n) 0 i)

@@ -5,13 +5,12 @@ use Rattle.labelling.specs.Rows.{row}
 use Rattle.labelling.specs.Tells.{Tells}
 use Rattle.labelling.proofs.Nodes.{row_below}
 use Rattle.labelling.proofs.Places.{row_front, row_own, other_row}
-use Rattle.labelling.proofs.Bounds.{ToldTo, told_start, told_end, told_skip, told_turn, parts_told, unbound}
+use Rattle.labelling.proofs.Bounds.{ToldTo, told_start, told_skip, told_turn, parts_told, unbound}
 use Rattle.labelling.proofs.binders.Binder.label_bound.Goals as goal
 use Rattle.labelling.proofs.binders.Binder.label_bound.Goals.{then-self-g, else-self-g}
 
 pub loop-g-init : goal.loop-g-init
-loop-g-init g c =
-    let b = c.args.self.now in told_start _ _ _ _ _ b.wanted c.args.v b.f c.args.before.now c.requires.known
+loop-g-init g c = let b = c.args.self.now in told_start _ _ _ _ _ b.wanted c.args.v b.f c.args.before.now c.requires.known
 
 pub label_row-requires-clause-fit : goal.label_row-requires-clause-fit
 label_row-requires-clause-fit g c =
@@ -57,8 +56,3 @@ loop-g-preserved g c =
           subst (λ zs. ToldTo reads reach job.n s job.table.now b.wanted c.args.v zs b.f (k + 1)) (sym w.before-is)
           (told_skip reads reach job.n s job.table.now b.wanted c.args.v b.f c.loop-g.before k w.if-self-g.false c.loop-g.invariant)
     ]
-
-pub returns : goal.returns
-returns g c =
-    let b = c.args.self.now in
-    record { told = told_end _ _ _ _ _ b.wanted c.args.v b.f c.loop-g.before c.loop-g.g (omega arith) c.loop-g.invariant }
