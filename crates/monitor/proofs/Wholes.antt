@@ -6,30 +6,13 @@ use Rattle.logic.specs.declared.types.Formula.{Formula}
 use Rattle.logic.specs.declared.types.State.{State}
 use Rattle.refusals.specs.declared.Refusal.{Refusal}
 use Rattle.refusals.specs.declared.Refusal.TheVariants as refusal
-use Rattle.labelling.specs.Whole.{place, Declined, Answered}
+use Rattle.labelling.specs.Whole.{place, Answered}
 use Rattle.growth.specs.Laws.{read_as}
 use Rattle.growth.proofs.Growing.{kinds_agree_lem}
 use Rattle.answers.proofs.Telling.{label_told}
 use Rattle.monitor.specs.declared.book.Book.{Book}
 use Rattle.monitor.specs.Book.{table_of, ground_of}
-use Rattle.monitor.specs.Whole.{WholeDeclined, WholeAnswered, Agrees}
-
-module _ {K : Type 0} (reads : K → Reading) (reach own : ℕ) (table : List Formula) (xs : List State) (old oldWork new newWork : List K) (mine : own ≡ length xs) where
-  declined_so : (why : Refusal) → Declined table xs reach (length old) (length oldWork) why → WholeDeclined own table xs reach (length old) (length oldWork) why
-  declined_so refusal.ForeignRecord d = absurd d
-  declined_so refusal.TooManyStates d = (mine, d)
-  declined_so refusal.RecordFull d = absurd d
-  declined_so refusal.MemoryTooShort d = (mine, d)
-  declined_so (refusal.NominalTaken i) d = (mine, d)
-  declined_so (refusal.ReferenceUnfit i) d = (mine, d)
-  declined_so refusal.NoSuchName d = absurd d
-  declined_so refusal.LooseFormula d = absurd d
-  declined_so refusal.NoSuchState d = absurd d
-  declined_so refusal.NoSuchPoint d = absurd d
-
-  pub whole_answered : (r : Result ℕ Refusal) → Answered reads reach table xs old oldWork r new newWork → WholeAnswered reads reach own table xs old oldWork r new newWork
-  whole_answered (Ok n) a = (mine, a.0, a.1)
-  whole_answered (Err why) a = (declined_so why a.0, a.1, a.2)
+use Rattle.monitor.specs.Whole.{WholeAnswered, Agrees}
 
 -- the cells read as the monitor's answers
 pub whole_agrees : {K : Type 0} (reads : K → Reading) (reach : ℕ) (b : Book) (room : ℕ) (xs : List State) (old oldWork new newWork : List K) (r : Result ℕ Refusal)
