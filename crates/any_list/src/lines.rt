@@ -59,11 +59,12 @@ pub fn print_run<K: LabelKind + Copy, R: Growing + Drop>(
     rt: &HostRuntime,
     table: Table,
     log: R,
-    labels: &mut [K],
-    work: &mut [K],
 ) -> io::Result<()> {
-    let mut answers = [Ok(Answer::Tells(None)); 24];
-    let outcome = run(table, log, &CALLS, &mut answers, labels, work);
+    let cells = table.formulas().len() * STATES;
+    let mut answers = vec![in rt.alloc(); Ok(Answer::Tells(None)); CALLS.len()]?;
+    let mut labels = vec![in rt.alloc(); K::unknown(); cells]?;
+    let mut work = vec![in rt.alloc(); K::unknown(); cells]?;
+    let outcome = run(table, log, &CALLS, &mut answers, &mut labels, &mut work);
     match outcome.answered {
         Ok(_) => {
             for answer in &answers {
@@ -75,7 +76,7 @@ pub fn print_run<K: LabelKind + Copy, R: Growing + Drop>(
     match outcome.labelled {
         Ok(n) => {
             println!(rt; "labelled={n}")?;
-            print_labels(rt, labels)
+            print_labels(rt, &labels)
         }
         Err(refusal) => print_refusal(rt, refusal),
     }

@@ -10,7 +10,6 @@ mod rule;
 use crate::calls::REQUEST;
 use crate::lines::print_run;
 use crate::rule::reply_table;
-use labels::LabelKind;
 use labels::dated::Dated;
 use records::change_record::ChangeRecord;
 use records::growing::Growing;
@@ -20,29 +19,16 @@ use std::io;
 use strips::Strip;
 use table::finished::Table;
 
-// The labels of the table's four formulas at the four states that the list leaves.
-const CELLS: usize = 16;
-
-fn print_kind<K: LabelKind + Copy, R: Growing + Drop>(
-    rt: &HostRuntime,
-    table: Table,
-    log: R,
-) -> io::Result<()> {
-    let mut labels = vec![in rt.alloc(); K::unknown(); CELLS]?;
-    let mut work = vec![in rt.alloc(); K::unknown(); CELLS]?;
-    print_run(rt, table, log, &mut labels, &mut work)
-}
-
 fn print_runs(rt: &HostRuntime, table: Table) -> io::Result<()> {
     let mut rows = [BLANK; 8];
     println!(rt; "record=table labels=dated")?;
-    print_kind::<Dated, _>(rt, table, TableRecord::new(&mut rows))?;
+    print_run::<Dated, _>(rt, table, TableRecord::new(&mut rows))?;
     println!(rt; "record=changes labels=strips")?;
-    print_kind::<Strip, _>(rt, table, ChangeRecord::new())?;
+    print_run::<Strip, _>(rt, table, ChangeRecord::new())?;
     let mut held = ChangeRecord::new();
     let _ = held.append(REQUEST);
     println!(rt; "record=held labels=dated")?;
-    print_kind::<Dated, _>(rt, table, held)
+    print_run::<Dated, _>(rt, table, held)
 }
 
 fn main(rt: HostRuntime) -> io::Result<()> {

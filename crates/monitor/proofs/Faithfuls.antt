@@ -3,11 +3,11 @@ use Rattle.std.proofs.Common.{◌≡◌, ℕ, ◌<◌, ◌≤◌, false, List, l
 use Rattle.logic.specs.declared.types.State.{State}
 use Rattle.logic.specs.Tables.{loose}
 use Rattle.table.specs.Tables.{InOrder}
-use Rattle.expectations.specs.Expectations.{no_rule, no_tally, standing, tallied, notices}
+use Rattle.expectations.specs.Expectations.{no_rule, no_tally, tallied, notices}
 use Rattle.growth.specs.Growth.{labels_of}
 use Rattle.monitor.specs.declared.book.Book.{Book}
 use Rattle.monitor.specs.Book.{table_of, rules_in, held, Right}
-use Rattle.monitor.proofs.Likes.{standing_like, tallied_like, notices_like}
+use Rattle.monitor.proofs.Likes.{tallied_like, notices_like}
 
 module _ (xs : List State) (b : Book) (order : InOrder (table_of b) (rules_in b)) (e : b.count ≡ length xs) (right : Right xs b) where
   abbrev Known : ℕ → Type 0
@@ -18,10 +18,6 @@ module _ (xs : List State) (b : Book) (order : InOrder (table_of b) (rules_in b)
 
   known : (r : ℕ) → r < length (rules_in b) → Known (get_or (rules_in b) r no_rule).condition × Known (get_or (rules_in b) r no_rule).content
   known r h = let o = order.ruled r h in ((o.0.0, o.1), (o.0.1, o.2))
-
-  pub standing_right : (r i c : ℕ) → r < length (rules_in b) → 1 ≤ i → i ≤ length xs
-      → standing (held b) (get_or (rules_in b) r no_rule) i c ≡ standing (labels_of (table_of b) xs) (get_or (rules_in b) r no_rule) i c
-  standing_right r i c h p q = standing_like (held b) (labels_of (table_of b) xs) Known (length xs) alike (get_or (rules_in b) r no_rule) i c (known r h) p q
 
   pub tally_right : (r : ℕ) → r < length (rules_in b) → get_or b.tallies r no_tally ≡ tallied (labels_of (table_of b) xs) (get_or (rules_in b) r no_rule) (length xs) (length xs)
   tally_right r h =

@@ -18,7 +18,7 @@ module _ (lab lab' : Labels) (Known : ℕ → Type 0) (n : ℕ) (h : (f i : ℕ)
   raises_like : (r : Rule) (s : ℕ) → Within r → 1 ≤ s → s ≤ n → raises lab r s ≡ raises lab' r s
   raises_like r s w a b = ap (λ z. true_from z s) (h r.condition s w.0 a b)
 
-  pub standing_like : (r : Rule) (s c : ℕ) → Within r → 1 ≤ s → s ≤ n → standing lab r s c ≡ standing lab' r s c
+  standing_like : (r : Rule) (s c : ℕ) → Within r → 1 ≤ s → s ≤ n → standing lab r s c ≡ standing lab' r s c
   standing_like r s c w a b =
       let e = raises_like r s w a b in
       let f = h r.content s w.1 a b in

@@ -1,35 +1,16 @@
 -- Whole labelling of a monitor's own record. Assumes nothing.
-use Rattle.std.proofs.Common.{◌≡◌, ℕ, ◌<◌, true, List, length, get_or, is_ok, Ok, Err, Result, refl, ap, ◌∙◌, arith}
+use Rattle.std.proofs.Common.{◌≡◌, ℕ, ◌<◌, true, List, length, get_or, is_ok, Ok, Err, Result, ap, ◌∙◌, arith}
 use Rattle.std.proofs.lemmas.Bool.{false≢true}
 use Rattle.labels.specs.Readings.{Reading}
-use Rattle.logic.specs.declared.types.Formula.{Formula}
 use Rattle.logic.specs.declared.types.State.{State}
 use Rattle.refusals.specs.declared.Refusal.{Refusal}
-use Rattle.refusals.specs.declared.Refusal.TheVariants as refusal
-use Rattle.labelling.specs.Whole.{place, Declined, Answered}
+use Rattle.labelling.specs.Whole.{place, Answered}
 use Rattle.growth.specs.Laws.{read_as}
 use Rattle.growth.proofs.Growing.{kinds_agree_lem}
 use Rattle.answers.proofs.Telling.{label_told}
 use Rattle.monitor.specs.declared.book.Book.{Book}
 use Rattle.monitor.specs.Book.{table_of, ground_of}
-use Rattle.monitor.specs.Whole.{WholeDeclined, WholeAnswered, Agrees}
-
-module _ {K : Type 0} (reads : K → Reading) (reach own : ℕ) (table : List Formula) (xs : List State) (old oldWork new newWork : List K) (mine : own ≡ length xs) where
-  declined_so : (why : Refusal) → Declined table xs reach (length old) (length oldWork) why → WholeDeclined own table xs reach (length old) (length oldWork) why
-  declined_so refusal.ForeignRecord d = absurd d
-  declined_so refusal.TooManyStates d = (mine, d)
-  declined_so refusal.RecordFull d = absurd d
-  declined_so refusal.MemoryTooShort d = (mine, d)
-  declined_so (refusal.NominalTaken i) d = (mine, d)
-  declined_so (refusal.ReferenceUnfit i) d = (mine, d)
-  declined_so refusal.NoSuchName d = absurd d
-  declined_so refusal.LooseFormula d = absurd d
-  declined_so refusal.NoSuchState d = absurd d
-  declined_so refusal.NoSuchPoint d = absurd d
-
-  pub whole_answered : (r : Result ℕ Refusal) → Answered reads reach table xs old oldWork r new newWork → WholeAnswered reads reach own table xs old oldWork r new newWork
-  whole_answered (Ok n) a = (mine, a.0, a.1)
-  whole_answered (Err why) a = (declined_so why a.0, a.1, a.2)
+use Rattle.monitor.specs.Whole.{Agrees}
 
 -- the cells read as the monitor's answers
 pub whole_agrees : {K : Type 0} (reads : K → Reading) (reach : ℕ) (b : Book) (room : ℕ) (xs : List State) (old oldWork new newWork : List K) (r : Result ℕ Refusal)
@@ -43,18 +24,3 @@ whole_agrees reads reach b room xs old oldWork new newWork (Ok n) a ok f i c v t
     kinds_agree_lem reads reach (table_of b) xs f i done.short.0 done.lawful p.state_from p.state_to (get_or new (place (length xs) f i) d)
     ((done.labels f i within p.state_from p.state_to d).0 p.is_closed 0) c (omega (arith, p.state_from, p.point_from)) (omega (arith, p.point_to, done.short.1)) (omega (arith, p.point_to, done.short.0)) r
     ∙ ap (λ w. read_as w r) asked.1
-
--- over a foreign record it is declined as such, and nothing changes
-pub foreign_whole : {K : Type 0} (reads : K → Reading) (reach own : ℕ) (table : List Formula) (xs : List State) (old oldWork new newWork : List K) (r : Result ℕ Refusal)
-    → (own ≡ length xs → ⊥) → WholeAnswered reads reach own table xs old oldWork r new newWork → (r ≡ Err refusal.ForeignRecord) × (new ≡ old) × (newWork ≡ oldWork)
-foreign_whole reads reach own table xs old oldWork new newWork (Ok n) apart a = absurd (apart a.0)
-foreign_whole reads reach own table xs old oldWork new newWork (Err refusal.ForeignRecord) apart a = (refl, a.1, a.2)
-foreign_whole reads reach own table xs old oldWork new newWork (Err refusal.TooManyStates) apart a = absurd (apart a.0.0)
-foreign_whole reads reach own table xs old oldWork new newWork (Err refusal.RecordFull) apart a = absurd a.0
-foreign_whole reads reach own table xs old oldWork new newWork (Err refusal.MemoryTooShort) apart a = absurd (apart a.0.0)
-foreign_whole reads reach own table xs old oldWork new newWork (Err (refusal.NominalTaken i)) apart a = absurd (apart a.0.0)
-foreign_whole reads reach own table xs old oldWork new newWork (Err (refusal.ReferenceUnfit i)) apart a = absurd (apart a.0.0)
-foreign_whole reads reach own table xs old oldWork new newWork (Err refusal.NoSuchName) apart a = absurd a.0
-foreign_whole reads reach own table xs old oldWork new newWork (Err refusal.LooseFormula) apart a = absurd a.0
-foreign_whole reads reach own table xs old oldWork new newWork (Err refusal.NoSuchState) apart a = absurd a.0
-foreign_whole reads reach own table xs old oldWork new newWork (Err refusal.NoSuchPoint) apart a = absurd a.0

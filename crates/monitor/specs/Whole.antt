@@ -1,5 +1,5 @@
 -- What whole labelling of a monitor's own record leaves.
-use Rattle.std.specs.Prelude.{◌≡◌, ℕ, Bool, List, length, Ok, Err, Result, slice_index_or}
+use Rattle.std.specs.Prelude.{◌≡◌, ℕ, Bool, List, length, Ok, Err, Result, ◌≢◌, slice_index_or}
 use Rattle.logic.specs.declared.types.Formula.{Formula}
 use Rattle.logic.specs.declared.types.State.{State}
 use Rattle.labels.specs.Readings.{Reading}
@@ -14,16 +14,8 @@ use Rattle.answers.specs.Answers.{Ground, told}
 
 -- why it is declined: the record's count is not the monitor's, or as whole labelling declines the record
 abbrev pub WholeDeclined : (own : ℕ) → List Formula → List State → (reach labels work : ℕ) → Refusal → Type 0
-WholeDeclined own table xs reach labels work refusal.ForeignRecord = own ≡ length xs → ⊥
-WholeDeclined own table xs reach labels work refusal.TooManyStates = (own ≡ length xs) × Declined table xs reach labels work refusal.TooManyStates
-WholeDeclined own table xs reach labels work refusal.RecordFull = ⊥
-WholeDeclined own table xs reach labels work refusal.MemoryTooShort = (own ≡ length xs) × Declined table xs reach labels work refusal.MemoryTooShort
-WholeDeclined own table xs reach labels work (refusal.NominalTaken i) = (own ≡ length xs) × Declined table xs reach labels work (refusal.NominalTaken i)
-WholeDeclined own table xs reach labels work (refusal.ReferenceUnfit i) = (own ≡ length xs) × Declined table xs reach labels work (refusal.ReferenceUnfit i)
-WholeDeclined own table xs reach labels work refusal.NoSuchName = ⊥
-WholeDeclined own table xs reach labels work refusal.LooseFormula = ⊥
-WholeDeclined own table xs reach labels work refusal.NoSuchState = ⊥
-WholeDeclined own table xs reach labels work refusal.NoSuchPoint = ⊥
+WholeDeclined own table xs reach labels work refusal.ForeignRecord = own ≢ length xs
+WholeDeclined own table xs reach labels work why = (own ≡ length xs) × Declined table xs reach labels work why
 
 -- it answers the number of states and leaves their labels, or declines and leaves all memory as it was
 abbrev pub WholeAnswered : {K : Type 0} → (K → Reading) → (reach own : ℕ) → List Formula → List State → (old oldWork : List K) → Result ℕ Refusal → (new newWork : List K) → Type 0

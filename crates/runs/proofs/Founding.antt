@@ -1,5 +1,5 @@
 -- The labels of a table obey the laws that a monitor's answers rest on, and the answers mean what they say. Assumes nothing.
-use Rattle.std.proofs.Common.{◌≡◌, ℕ, ◌+◌, ◌≤◌, min, Bool, true, false, leb, List, [], ◌∷◌, length, Some, None, Err, Option, Result, sym, refl, ap, ◌∙◌, subst, inl, arith}
+use Rattle.std.proofs.Common.{◌≡◌, ℕ, ◌+◌, ◌≤◌, min, Bool, true, false, leb, List, [], length, Some, None, Err, Option, Result, sym, refl, ap, ◌∙◌, subst, inl, arith}
 use Rattle.std.proofs.lemmas.Bool.{leb-true, leb-false, true≢false}
 use Rattle.logic.specs.declared.types.Formula.{Formula}
 use Rattle.logic.specs.declared.types.Rule.{Rule}
@@ -15,18 +15,22 @@ use Rattle.expectations.specs.Expectations.{verdict}
 use Rattle.growth.specs.Growth.{labels_of}
 use Rattle.growth.specs.Laws.{Right}
 use Rattle.growth.proofs.Growing.{labels_mean_lem, labels_in_order_lem, labels_are_sound_lem, labels_grow_lem}
+use Rattle.logic.proofs.Beginnings.{lawful_goes_on_lem}
+use Rattle.answers.specs.declared.types.Call.{Call}
 use Rattle.answers.specs.declared.types.Call.TheVariants.{Append}
 use Rattle.answers.specs.declared.types.Answer.{Answer}
 use Rattle.answers.specs.declared.types.Answer.TheVariants.{Number}
 use Rattle.answers.specs.Tests.{taken, misled}
-use Rattle.answers.specs.Answers.{Ground, or_else, refusal_of, outcome}
-use Rattle.answers.specs.Law.{Founded}
+use Rattle.answers.specs.Answers.{Ground, or_else, refusal_of, outcome, accepted}
+use Rattle.answers.specs.Law.{Founded, Judged}
+use Rattle.answers.proofs.Judging.{judged}
+use Rattle.answers.proofs.Accepting.{accepted_lawful, accepted_small, nothing_lawful}
 use Rattle.answers.proofs.Tested.{taken_decides, misled_decides}
 use Rattle.answers.proofs.Telling.{label_told}
 use Rattle.monitor.specs.Book.{ground}
-use Rattle.runs.specs.Meant.{AppendRefused, Meant}
+use Rattle.runs.specs.Meant.{AppendRefused, Meant, GoesOn}
 
-pub founded : (table : List Formula) (rules : List Rule) (room : ℕ) → Founded (ground table rules room)
+founded : (table : List Formula) (rules : List Rule) (room : ℕ) → Founded (ground table rules room)
 founded table rules room =
     record {
       dated = λ xs law small. (labels_in_order_lem table xs small).0;
@@ -59,7 +63,7 @@ module _ (G : Ground) (xs : List State) (x : State) where
       (λ b. (leb-false G.capacity (length xs) b2, (leb-false 256 (length xs) b1, refl, (λ t. absurd (true≢false (sym ((taken_decides xs x).1 t) ∙ b3))), (misled_decides xs x).0 b)))
       (λ b4 e4. let z : ◌≡◌ {A = ℕ} 0 1 = cc in absurd (omega arith)))))
 
-pub meant : (table : List Formula) (rules : List Rule) (room : ℕ) (xs : List State) → LawfulRecord xs → length xs ≤ 256 → Meant (ground table rules room) xs
+meant : (table : List Formula) (rules : List Rule) (room : ℕ) (xs : List State) → LawfulRecord xs → length xs ≤ 256 → Meant (ground table rules room) xs
 meant table rules room xs law small =
     let G = ground table rules room in
     record {
@@ -73,6 +77,22 @@ meant table rules room xs law small =
       appends = λ x why e. append_refused G xs x why (refusal_is (refusal_of G xs (Append x)) (length xs + 1) why e);
     }
 
-pub empty : (xs : List State) → length xs ≡ 0 → xs ≡ []
-empty [] e = refl
-empty (x ∷ xs) e = absurd (omega arith)
+-- ── After a list of calls on a new monitor over an empty record ──
+module _ (table : List Formula) (rules : List Rule) (room : ℕ) (calls : List Call) (ends : List State) (run : ends ≡ accepted (ground table rules room) [] calls) where
+  abbrev G : Ground
+  G = ground table rules room
+
+  law : LawfulRecord (accepted G [] calls)
+  law = accepted_lawful G [] calls nothing_lawful
+
+  small : length (accepted G [] calls) ≤ 256
+  small = accepted_small G [] calls (omega arith)
+
+  pub judged_after : Judged G ends
+  judged_after = subst (Judged G) (sym run) (judged G (founded table rules room) (accepted G [] calls) law small)
+
+  pub meant_after : Meant G ends
+  meant_after = subst (Meant G) (sym run) (meant table rules room (accepted G [] calls) law small)
+
+  pub goes_on_after : GoesOn ends
+  goes_on_after = let trace = lawful_goes_on_lem (accepted G [] calls) law in subst GoesOn (sym run) (state_at (accepted G [] calls), trace.0, trace.1)

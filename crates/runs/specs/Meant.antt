@@ -18,14 +18,7 @@ use Rattle.answers.specs.Answers.{Ground, told, after}
 abbrev pub AppendRefused : Ground → List State → State → Refusal → Type 0
 AppendRefused G xs x refusal.TooManyStates = 256 ≤ length xs
 AppendRefused G xs x refusal.RecordFull = (length xs < 256) × (G.capacity ≤ length xs)
-AppendRefused G xs x (refusal.NominalTaken i) = (length xs < G.capacity) × MayNotFollow xs x (refusal.NominalTaken i)
-AppendRefused G xs x (refusal.ReferenceUnfit i) = (length xs < G.capacity) × MayNotFollow xs x (refusal.ReferenceUnfit i)
-AppendRefused G xs x refusal.ForeignRecord = ⊥
-AppendRefused G xs x refusal.MemoryTooShort = ⊥
-AppendRefused G xs x refusal.NoSuchName = ⊥
-AppendRefused G xs x refusal.LooseFormula = ⊥
-AppendRefused G xs x refusal.NoSuchState = ⊥
-AppendRefused G xs x refusal.NoSuchPoint = ⊥
+AppendRefused G xs x why = (length xs < G.capacity) × MayNotFollow xs x why
 
 -- What the answers over the accepted states xs mean: a verdict is true, false or unknown by the weak and the strong reading of
 -- its formula, and an append is refused for what its refusal says.

@@ -1,5 +1,4 @@
-use Rattle.std.proofs.Common.{◌≡◌, length, None, ap, ◌∙◌, ap₂, arith, rules}
-use Rattle.std.specs.List.{slice_get}
+use Rattle.std.proofs.Common.{◌≡◌, length, None, ap₂, arith, rules}
 use Rattle.answers.specs.declared.types.Call.TheVariants.{NoticeOf}
 use Rattle.answers.specs.Answers.{outcome, refused_by}
 use Rattle.monitor.specs.Book.{ground_of}
@@ -12,5 +11,5 @@ returns g c =
     let xs = g.R.Readable.states m.log in
     let own : m.book.count ≡ length xs = search rules in
     let taken : None ≡ refused_by m.book.count (ground_of m.book (g.R.Growing.room m.log)) xs (NoticeOf c.args.point c.args.k) = search rules in
-    ap₂ outcome taken
-    (c.notice.ensures.found ∙ ap (λ ns. slice_get ns c.args.k) (notices_right xs m.book c.notice.ensures.order own (m.faithful own) c.args.point (omega arith)))
+    let right = notices_right xs m.book c.notice.ensures.order own (m.faithful own) c.args.point (omega arith) in
+    ap₂ outcome taken (rw right at c.notice.ensures.found)
