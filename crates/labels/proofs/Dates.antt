@@ -3,7 +3,7 @@ use Rattle.std.proofs.Common.{◌≡◌, ℕ, ◌-◌, ◌<◌, ◌≤◌, min, 
 use lib.Signed.{lt_z, le_z}
 use Rattle.std.specs.Int.{int_max, int_min}
 use Rattle.std.proofs.lemmas.Int.{ints, clamps, by_lt_z}
-use Rattle.std.proofs.lemmas.Bool.{cases_lt, lt-ltb, le-ltb, cond-true, cond-false}
+use Rattle.std.proofs.lemmas.Bool.{both_ways, cases_lt, lt-ltb, le-ltb, cond-true, cond-false}
 use Rattle.labels.specs.Readings.{Reading, Same, DateOf, seen}
 use Rattle.labels.specs.Dated.{dated, limited_to}
 
@@ -78,14 +78,11 @@ number_by_meaning x y lo hi lo' hi' same =
     (λ h. absurd (below_differs x y lo hi' same h))
     (λ h. by_lt_z y x (λ k. absurd (below_differs y x lo' hi (λ e c p q. sym (same e c p q)) k)) (λ k. omega (arith, ints)))
 
-pub clash : {b : Bool} → b ≡ true → b ≡ false → ⊥
-clash p q = let z : ◌≡◌ {A = ℕ} 0 1 = cc in omega arith
-
 not_earlier : (n : ℕ) (f : Reading) (d e : ℕ) → DateOf n f d → DateOf n f e → d < e → ⊥
 not_earlier n f d e p q h =
     ⊎_elim
-    (λ z. clash (p.holds z) (q.first d z h))
-    (λ z. clash (q.holds (omega arith)) (p.never (omega arith) e (omega arith) q.within))
+    (λ z. both_ways (f false d) (q.first d z h) (p.holds z))
+    (λ z. both_ways (f false e) (p.never (omega arith) e (omega arith) q.within) (q.holds (omega arith)))
     (cases_lt 0 d)
 
 -- A reading has one date.

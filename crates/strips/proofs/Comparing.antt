@@ -1,8 +1,8 @@
 -- The dates of labels of different reach.
 use Rattle.std.proofs.Common.{◌≡◌, ℕ, ◌<◌, ◌≤◌, false, sym, ◌∙◌, ⊎_elim, arith}
-use Rattle.std.proofs.lemmas.Bool.{cases_lt}
+use Rattle.std.proofs.lemmas.Bool.{both_ways, cases_lt}
 use Rattle.labels.specs.Readings.{Reading, Same, DateOf}
-use Rattle.labels.proofs.Dates.{clash, date_only}
+use Rattle.labels.proofs.Dates.{date_only}
 use Rattle.strips.specs.Masks.{TrueBy}
 
 -- the date of f up to n is that of g up to m, where g is the same as f, and f does not become true after m
@@ -10,7 +10,7 @@ pub date_carried : (m n : ℕ) (f g : Reading) (d : ℕ) → 0 < m → m ≤ n �
 date_carried m n f g d lo hi same by p =
     let in-m : d ≤ m =
     ⊎_elim
-    (λ h. absurd (clash (by d (omega arith) p.within (p.holds (omega arith))) (p.first m lo h)))
+    (λ h. absurd (both_ways (f false m) (p.first m lo h) (by d (omega arith) p.within (p.holds (omega arith)))))
     (λ h. h)
     (cases_lt m d)
     in

@@ -36,9 +36,9 @@ fn parts_below(formula: Formula, n: usize) -> bool
     ensures { Decides result (EachPart (λ g. g < n) formula) }
 {
     match formula {
-        Formula::And(a, b) | Formula::Or(a, b) | Formula::Until(a, b) | Formula::Since(a, b) => a
-            < n
-            && b < n,
+        Formula::And(a, b) | Formula::Or(a, b) | Formula::Until(a, b) | Formula::Since(a, b) => {
+            a < n && b < n
+        }
         Formula::Not(a)
         | Formula::Next(a)
         | Formula::Previous(a)

@@ -6,15 +6,8 @@ ghost use Rattle.worked.specs.Examples.{labels, further_labels, raisings, offers
 ghost use Rattle.worked.specs.Claims.{WorkedExamples, FurtherExamples};
 
 // Every example of the tables comes out as the tables say.
-pub fn worked_examples() -> u8
+pub fn worked_examples()
     ensures { WorkedExamples }
-{
-    0
-}
-
-// So does every further one.
-fn further_hold()
-    ensures { FurtherExamples }
 {}
 
 // Every further example comes out as the tables say; answers how many examples there are in all.
@@ -22,6 +15,5 @@ pub fn further_examples() -> usize
     ensures count { result ≡ length labels + length further_labels + length raisings + length offers + length further_offers }
     ensures right { FurtherExamples }
 {
-    further_hold();
     60
 }
