@@ -2,9 +2,7 @@
 ghost use Rattle.slots.specs.Slots.{SlotTable};
 
 use logic::types::{Formula, Rule};
-use table::building::*;
 use table::defects::Defect;
-use table::draft::Draft;
 use table::finished::Table;
 
 // The signal of a state at which the slot is taken, and that of one at which it is freed.
@@ -21,15 +19,17 @@ pub const CONTENT: usize = 4;
 pub fn slot_table() -> Result<Table, Defect>
     ensures { SlotTable result }
 {
-    let mut draft = Draft::new();
-    let take = draft.add_formula(Formula::Signal(TAKE))?;
-    let free = draft.add_formula(Formula::Signal(FREE))?;
-    let kept = draft.add_formula(Formula::Not(take))?;
-    let freed = draft.add_formula(Formula::Until(kept, free))?;
-    let content = draft.add_formula(Formula::Next(freed))?;
-    draft.add_rule(Rule {
-        condition: take,
-        content,
-    })?;
-    draft.finish()
+    Table::of(
+        &[
+            Formula::Signal(TAKE),
+            Formula::Signal(FREE),
+            Formula::Not(0),
+            Formula::Until(2, 1),
+            Formula::Next(3),
+        ],
+        &[Rule {
+            condition: 0,
+            content: CONTENT,
+        }],
+    )
 }

@@ -1,17 +1,24 @@
-use Rattle.std.proofs.Common.{length, refl, arith, rules}
-use Rattle.logic.specs.Tables.{loose, tree, tree_to}
-use Rattle.table.specs.Tables.{formulas_of, rules_of, Ruled}
-use Rattle.table.proofs.Fitting.{not_refused}
+use Rattle.std.proofs.Common.{zero, suc, [], ◌∷◌, refl, arith}
+use Rattle.logic.specs.Tables.{OrderlyTable, loose, tree, tree_to}
+use Rattle.table.specs.Order.{EachRuled}
+use Rattle.table.specs.Tables.{MakesTable}
 use Rattle.any_list.specs.Replies.{reply_formulas, reply_rule}
 use Rattle.any_list.proofs.rule.reply_table.Goals as goal
 
-ruled : Ruled reply_formulas reply_rule
-unfolding loose tree tree_to
-ruled = ((omega arith, omega arith), refl, refl)
+reply_orderly : OrderlyTable reply_formulas
+reply_orderly zero h = (omega arith, tt)
+reply_orderly (suc zero) h = (omega arith, tt)
+reply_orderly (suc (suc zero)) h = (tt, omega arith)
+reply_orderly (suc (suc (suc zero))) h = (tt, tt)
+reply_orderly (suc (suc (suc (suc f)))) h = absurd (omega arith)
 
-pub returns-in_err-add_rule : goal.returns-in_err-add_rule
-returns-in_err-add_rule c =
-    let draft = c.add_formula-4.new.self in
-    absurd (not_refused (formulas_of draft) reply_formulas (length (rules_of draft))
-    (record { condition = c.in_ok-asked.asked; content = c.in_ok-content.content }) reply_rule
-    c.in_err-add_rule.field-0.0 c.in_err-add_rule.ensures.0 (search rules) (search rules) (search rules) ruled)
+reply_ruled : EachRuled reply_formulas (reply_rule ∷ [])
+unfolding loose tree tree_to
+reply_ruled zero h = ((omega arith, omega arith), refl, refl)
+reply_ruled (suc r) h = absurd (omega arith)
+
+reply_makes : MakesTable reply_formulas (reply_rule ∷ [])
+reply_makes = (record { few = omega arith; orderly = reply_orderly; short = omega arith; ruled = reply_ruled }, omega arith, omega arith)
+
+pub returns : goal.returns
+returns c = let h = c.of.ensures.possible.1 reply_makes in grind arith

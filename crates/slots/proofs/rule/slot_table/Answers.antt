@@ -1,17 +1,25 @@
-use Rattle.std.proofs.Common.{length, refl, arith, rules}
-use Rattle.logic.specs.Tables.{loose, tree, tree_to}
-use Rattle.table.specs.Tables.{formulas_of, rules_of, Ruled}
-use Rattle.table.proofs.Fitting.{not_refused}
+use Rattle.std.proofs.Common.{zero, suc, [], ◌∷◌, refl, arith}
+use Rattle.logic.specs.Tables.{OrderlyTable, loose, tree, tree_to}
+use Rattle.table.specs.Order.{EachRuled}
+use Rattle.table.specs.Tables.{MakesTable}
 use Rattle.slots.specs.Slots.{slot_formulas, slot_rule}
 use Rattle.slots.proofs.rule.slot_table.Goals as goal
 
-ruled : Ruled slot_formulas slot_rule
-unfolding loose tree tree_to
-ruled = ((omega arith, omega arith), refl, refl)
+slot_orderly : OrderlyTable slot_formulas
+slot_orderly zero h = (omega arith, tt)
+slot_orderly (suc zero) h = (omega arith, tt)
+slot_orderly (suc (suc zero)) h = (tt, omega arith)
+slot_orderly (suc (suc (suc zero))) h = (tt, (omega arith, omega arith))
+slot_orderly (suc (suc (suc (suc zero)))) h = (tt, omega arith)
+slot_orderly (suc (suc (suc (suc (suc f))))) h = absurd (omega arith)
 
-pub returns-in_err-add_rule : goal.returns-in_err-add_rule
-returns-in_err-add_rule c =
-    let draft = c.add_formula-5.new.self in
-    absurd (not_refused (formulas_of draft) slot_formulas (length (rules_of draft))
-    (record { condition = c.in_ok-take.take; content = c.in_ok-content.content }) slot_rule
-    c.in_err-add_rule.field-0.0 c.in_err-add_rule.ensures.0 (search rules) (search rules) (search rules) ruled)
+slot_ruled : EachRuled slot_formulas (slot_rule ∷ [])
+unfolding loose tree tree_to
+slot_ruled zero h = ((omega arith, omega arith), refl, refl)
+slot_ruled (suc r) h = absurd (omega arith)
+
+slot_makes : MakesTable slot_formulas (slot_rule ∷ [])
+slot_makes = (record { few = omega arith; orderly = slot_orderly; short = omega arith; ruled = slot_ruled }, omega arith, omega arith)
+
+pub returns : goal.returns
+returns c = let h = c.of.ensures.possible.1 slot_makes in grind arith
