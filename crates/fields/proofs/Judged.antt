@@ -5,7 +5,7 @@ use Rattle.faults.specs.declared.line.LineFault.TheVariants as fault
 use Rattle.fields.specs.Lines.{FirstLine}
 use Rattle.fields.specs.declared.lines.Taken.{Taken}
 use Rattle.fields.specs.Reads.{Fails, ReadsLine}
-use Rattle.fields.specs.Kinds.{Kind, Shows, Fits, Takes, Refuses, TakesLine, RefusesLine, ShowsNone}
+use Rattle.fields.specs.Kinds.{Kind, Shows, Fits, Takes, Refuses, TakesLine, ShowsNone}
 use Rattle.fields.proofs.Ends.{one_line}
 
 -- a kind whose lines show one value at most
@@ -51,11 +51,6 @@ module _ (K : Kind) (single : Single K) (text : List ℕ) where
 module _ (K : Kind) (text line : List ℕ) where
   line_as : (rest : List ℕ) (v : K.Value) → FirstLine text line rest → line ≡ K.written v → FirstLine text (K.written v) rest
   line_as rest v f e = subst (λ z. FirstLine text z rest) e f
-
-  pub refused : (rest : List ℕ) (place : ℕ) (e : LineFault) → FirstLine text line rest → RefusesLine K line place e → Refuses K text place e
-  refused rest place (fault.Torn at) f x = absurd x
-  refused rest place (fault.Form at) f (p, none) = (p, (line, rest, f, none))
-  refused rest place (fault.Range at) f (p, (v, e, g, out)) = (p, (v, rest, record { line = line_as rest v f e; formed = g }, out))
 
   pub taken : (v : K.Value) (used : ℕ) → FirstLine text line (drop (length line + 1) text) → TakesLine K line v → used ≡ length line + 1 → Takes K text v used
   taken v used f t e =

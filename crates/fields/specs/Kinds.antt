@@ -51,9 +51,3 @@ pub record TakesLine (K : Kind) (line : List ℕ) (v : K.Value) : Type 0 where
   pub shows : line ≡ K.written v
   pub formed : K.Formed v
   pub ranged : K.Ranged v
-
-abbrev pub RefusesLine : Kind → (line : List ℕ) → (place : ℕ) → LineFault → Type 0
-RefusesLine K line place (fault.Torn at) = ⊥
-RefusesLine K line place (fault.Form at) = (at ≡ place) × ShowsNone K line
-RefusesLine K line place (fault.Range at) =
-    (at ≡ place) × ((v : K.Value) × (line ≡ K.written v) × K.Formed v × (K.Ranged v → ⊥))

@@ -1,7 +1,7 @@
 ghost use Rattle.std.specs.Prelude.{◌≡◌, ℕ, ◌≤◌, [], MatchOption, MatchResult, ◌≢◌};
 ghost use Rattle.keys.specs.Keys.{count_text};
 ghost use Rattle.fields.specs.Lines.{Small, field};
-ghost use Rattle.fields.specs.Kinds.{Takes, Refuses, TakesLine, RefusesLine};
+ghost use Rattle.fields.specs.Kinds.{Takes, Refuses};
 ghost use Rattle.rulelines.specs.Counts.{count_kind};
 
 use faults::line::LineFault;

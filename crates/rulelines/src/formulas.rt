@@ -1,7 +1,6 @@
 ghost use Rattle.std.specs.Prelude.{◌≡◌, MatchOption, MatchResult};
-ghost use Rattle.fields.specs.Kinds.{TakesLine, Refuses, RefusesLine};
+ghost use Rattle.fields.specs.Kinds.{Refuses};
 ghost use Rattle.rulelines.specs.Formulas.{Ranged, formula_kind};
-ghost use Rattle.rulelines.specs.declared.entries.Entry.{Entry};
 ghost use Rattle.rulelines.specs.Meanings.{meaning, FormulaTaken};
 
 use crate::entries::{Entry, entry_of};

@@ -1,5 +1,5 @@
 ghost use Rattle.std.specs.Prelude.{◌≡◌, MatchOption, MatchResult};
-ghost use Rattle.fields.specs.Kinds.{Takes, TakesLine, Refuses, RefusesLine, ShowsNone};
+ghost use Rattle.fields.specs.Kinds.{Takes, Refuses, ShowsNone};
 ghost use Rattle.rulelines.specs.Rules.{Formed, Ranged, rule_line, rule_kind, rule_of_lem};
 
 use faults::line::LineFault;

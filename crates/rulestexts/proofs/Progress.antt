@@ -18,7 +18,7 @@ use Rattle.rulelines.specs.Formulas.{formula_kind}
 use Rattle.rulelines.specs.Meanings.{meaning, FormulaTaken}
 use Rattle.rulelines.specs.Rules.{rule_kind}
 use Rattle.rulestexts.specs.Blocks.{Block, Begins, Stops, at_line}
-use Rattle.rulestexts.specs.Sections.{count_of_formulas, count_of_rules, formula_block, rule_block, Founded, FormulaRefused, RuleRefused}
+use Rattle.rulestexts.specs.Sections.{formula_block, rule_block, Founded, FormulaRefused, RuleRefused}
 use Rattle.rulestexts.specs.Texts.{meanings, FormulaJoins, RuleJoins}
 use Rattle.rulestexts.proofs.Ranges.{within_range}
 
@@ -26,9 +26,6 @@ length_push : {A : Type 0} (xs : List A) (x : A) → length (xs ++ (x ∷ [])) �
 length_push xs x = length-append xs (x ∷ []) ∙ omega arith
 
 module _ {A : Type 0} (B : Block A) (text : List ℕ) (n : ℕ) where
-  block_start : (rest : List ℕ) → B.Counts n text rest → Begins B n [] text rest
-  block_start rest c = record { middle = rest; counts = c; run = refl }
-
   block_more : (xs : List A) (x : A) (rest after : List ℕ) → Begins B n xs text rest → B.Line (length xs) x rest after → Begins B n (xs ++ (x ∷ [])) text after
   block_more xs x rest after b l = record {
     middle = b.middle;
@@ -46,18 +43,6 @@ pub record Formulas (text : List ℕ) (n k at : ℕ) (d : Draft) : Type 0 where
   pub within : at ≤ length text
   pub few : n ≤ 64
   pub some : 1 ≤ n
-
-pub formulas_start : (text : List ℕ) (n used : ℕ) (d : Draft) → Takes count_of_formulas text n used → formulas_of d ≡ [] → rules_of d ≡ [] → Formulas text n 0 used d
-formulas_start text n used d t f r = record {
-  entries = [];
-  lines = block_start formula_block text n (drop used text) t.fits;
-  count = refl;
-  means = f;
-  ruleless = r;
-  within = t.within;
-  few = t.fits.ranged.1;
-  some = t.fits.ranged.0;
-}
 
 pub formula_range : (text : List ℕ) (k : ℕ) (φ : Formula) (used : ℕ) → FormulaTaken text k φ used → InRange φ
 formula_range text k φ used (v, t, e) =
@@ -109,16 +94,6 @@ pub record Rules (text : List ℕ) (formulas : List Formula) (n k at : ℕ) (d :
   pub within : at ≤ length text
   pub few : n ≤ 16
   pub some : 1 ≤ n
-
-pub rules_start : (text : List ℕ) (n used : ℕ) (d : Draft) → Takes count_of_rules text n used → rules_of d ≡ [] → Rules text (formulas_of d) n 0 used d
-rules_start text n used d t r = record {
-  lines = subst (λ z. Begins (rule_block (formulas_of d)) n z text (drop used text)) (sym r) (block_start (rule_block (formulas_of d)) text n (drop used text) t.fits);
-  count = ap length r;
-  same = refl;
-  within = t.within;
-  few = t.fits.ranged.1;
-  some = t.fits.ranged.0;
-}
 
 module _ (text : List ℕ) (formulas : List Formula) (n k at : ℕ) (d : Draft) (h : Rules text formulas n k at d) where
   pub rules_more : (r : Rule) (used place : ℕ) (e : Draft) → Takes (rule_kind k) (rest_from text at) (k, r) used → RuleJoins d r place (Ok tt) e → Rules text formulas n (k + 1) (at + used) e

@@ -25,6 +25,9 @@ pub(crate) struct Section {
     pub(crate) used: usize,
 }
 
+// The two readers below stay apart: one loop for both would take from its caller what a line is, how it joins and what the
+// promise says of it, which is more than each of them has.
+
 // The formulas that a text begins with.
 pub(crate) fn read_formulas(text: &[u8]) -> Result<Section, ReadFault>
     ensures { MatchResult result (λ a. (vs : List Entry) × FormulasRead text.now a vs) (λ e. Refused text.now e) }
