@@ -1,5 +1,5 @@
 -- A record with one state more. Assumes nothing.
-use Rattle.std.proofs.Common.{◌≡◌, ℕ, zero, suc, ◌+◌, ◌<◌, ◌≤◌, Bool, ◌⊎◌, List, [], ◌∷◌, ◌++◌, length, Decides, sym, refl, ap, ◌∙◌, subst, ⊎_elim, add-one, arith}
+use Rattle.std.proofs.Common.{◌≡◌, ℕ, zero, suc, ◌+◌, ◌-◌, ◌<◌, ◌≤◌, Bool, ◌⊎◌, List, [], ◌∷◌, ◌++◌, length, Decides, sym, refl, ap, ◌∙◌, subst, ⊎_elim, add-one, arith}
 use Rattle.std.proofs.lemmas.List.{get_or_append_left, get_or_push, length_push}
 use Rattle.std.proofs.lemmas.Bool.{cases_eq}
 use Rattle.logic.specs.declared.types.State.{State}
@@ -24,13 +24,22 @@ lawful_more xs x law fit i one le =
     (cases_eq i (length xs + 1))
 
 -- a nominal is taken by the next state if a state of the record carries it
-pub taken_joined : (xs : List State) (x : State) (b : Bool) → 0 < x.nominal → Decides b ((i : ℕ) × (1 ≤ i) × (i ≤ length xs) × ((state_at xs i).nominal ≡ x.nominal))
+pub taken_joined : (xs : List State) (x : State) (b : Bool) → Decides b ((0 < x.nominal) × ((p : ℕ) × (p < length xs) × ((state_at xs (p + 1)).nominal ≡ x.nominal)))
     → Decides b (NominalTaken (joined xs x) (length xs + 1))
-taken_joined xs x b pos d =
-    let new : (joined xs x (length xs + 1)).nominal ≡ x.nominal = ap (λ (q : State). q.nominal) (joined_new xs x) in
-    let old : (i : ℕ) → i ≤ length xs → (joined xs x i).nominal ≡ (state_at xs i).nominal = λ i le. ap (λ (q : State). q.nominal) (joined_old xs x i le) in (
-      (λ t. let w = d.0 t in (subst (λ k. 0 < k) (sym new) pos, (w.0, w.1, omega (arith, w.2), old w.0 w.2 ∙ w.3 ∙ sym new))),
-      (λ t. let w = t.1 in d.1 (w.0, w.1, omega (arith, w.2), sym (old w.0 (omega (arith, w.2))) ∙ w.3 ∙ new)),
+taken_joined xs x b d =
+    let new : (joined xs x (length xs + 1)).nominal ≡ x.nominal = ap (λ (q : State). q.nominal) (joined_new xs x) in (
+      (λ t. let w = d.0 t in (
+        subst (λ k. 0 < k) (sym new) w.0,
+        (w.1.0 + 1, omega arith, omega (arith, w.1.1), ap (λ (q : State). q.nominal) (joined_old xs x (w.1.0 + 1) (omega (arith, w.1.1))) ∙ w.1.2 ∙ sym new),
+      )),
+      (λ t. d.1 (
+        subst (λ k. 0 < k) new t.0,
+        (
+          t.1.0 - 1,
+          omega (arith, t.1.1, t.1.2),
+          ap (λ j. (state_at xs j).nominal) (omega (arith, t.1.1)) ∙ ap (λ (q : State). q.nominal) (sym (joined_old xs x t.1.0 (omega (arith, t.1.2)))) ∙ t.1.3 ∙ new,
+        ),
+      )),
     )
 
 pub misled_joined : (xs : List State) (x : State) (i : ℕ) → i ≡ length xs + 1 → (b : Bool) → Decides b (Unfit x.first i ⊎ Unfit x.second i) → Decides b (ReferenceUnfit (joined xs x) i)

@@ -32,13 +32,13 @@ at-upto n i one le = get_or-range_with_len 1 n (i - 1) 0 (omega arith) ∙ omega
 
 -- what `any` says
 pub any_upto : (n : ℕ) (P : ℕ → Type 0) (r : Bool) → MatchBool r ((k : ℕ) × (k < length (range_with_len 1 n)) × HoldsAt P (range_with_len 1 n) k) (AllWithin (λ i. P i → ⊥) (range_with_len 1 n) 0 (length (range_with_len 1 n)))
-    → Decides r ((i : ℕ) × (1 ≤ i) × (i ≤ n) × P i)
+    → Decides r ((p : ℕ) × (p < n) × P (p + 1))
 any_upto n P true h =
     let less : h.0 < n = omega (arith, h.1, length-range_with_len 1 n) in
-    ((λ _. (h.0 + 1, omega arith, omega arith, subst P (get_or-range_with_len 1 n h.0 0 less ∙ omega arith) (h.2 0))), (λ _. refl))
+    ((λ _. (h.0, less, subst P (get_or-range_with_len 1 n h.0 0 less ∙ omega arith) (h.2 0))), (λ _. refl))
 any_upto n P false h = (
   (λ e. absurd (false≢true e)),
-  (λ w. absurd (h (w.0 - 1) 0 (omega arith) (omega (arith, w.1, w.2, length-range_with_len 1 n)) (subst P (sym (at-upto n w.0 w.1 w.2)) w.3))),
+  (λ w. absurd (h w.0 0 (omega arith) (omega (arith, w.1, length-range_with_len 1 n)) (subst P (omega arith ∙ sym (get_or-range_with_len 1 n w.0 0 w.1)) w.2))),
 )
 
 -- what `all` says

@@ -10,6 +10,7 @@ pub returns-then-state-gt0 : goal.returns-then-state-gt0
 returns-then-state-gt0 g c =
     let xs = g.R.Readable.states c.args.log.now in
     let Same : ℕ → Type 0 = λ i. (state_at xs i).nominal ≡ c.args.state.nominal in
-    taken_joined xs c.args.state c.any.result c.if-state-gt0.true
-    (any_upto (length xs) Same c.any.result
-    (cases_from_any _ _ _ Same (λ i. Same i → ⊥) c.any.ensures.ran (upto_gives (length xs) _ (cc) (cc) (cc)) (λ i q k. search (rules, tests)) (λ i q k. search (rules, tests))))
+    let found =
+    any_upto (length xs) Same c.any.result
+    (cases_from_any _ _ _ Same (λ i. Same i → ⊥) c.any.ensures.ran (upto_gives (length xs) _ (cc) (cc) (cc)) (λ i q k. search (rules, tests)) (λ i q k. search (rules, tests))) in
+    taken_joined xs c.args.state c.any.result ((λ t. (c.if-state-gt0.true, found.0 t)), (λ u. found.1 u.1))
