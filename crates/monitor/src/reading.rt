@@ -129,13 +129,15 @@ impl Book {
         ensures order { InOrder (table_of self.now) (rules_in self.now) }
     {
         let mut more = k;
-        let mut found = None;
+        let mut told = None;
         'found: for (r, rule) in self.table.rules().iter().enumerate() {
+            // Not `1..=`, as in `tally_of`.
             for s in 1..point + 1 {
+                // Not by `flatten`: an invariant would have to say what its source and its inner iterators have left.
                 for event in self.events(r, *rule, s, point) {
                     if let Some(notice) = event {
                         if more == 0 {
-                            found = Some(notice);
+                            told = Some(notice);
                             break 'found;
                         }
                         more -= 1;
@@ -143,6 +145,6 @@ impl Book {
                 }
             }
         }
-        found
+        told
     }
 }

@@ -52,6 +52,7 @@ fn reply_all<R: Growing>(
     ensures table { monitor.new.book.table ≡ monitor.old.book.table }
     ensures room { R.Growing.room monitor.new.log ≡ R.Growing.room monitor.old.log }
 {
+    // By number, since of a slice that `iter_mut` lends to a `zip` a proof knows nothing afterwards.
     for (k, call) in calls.iter().enumerate() {
         answers[k] = reply(monitor, *call);
     }

@@ -1,7 +1,9 @@
 use Rattle.std.proofs.Common.{◌≡◌, length, None, ap₂, arith, rules}
+use Rattle.std.specs.List.{slice_get}
+use Rattle.expectations.specs.Expectations.{notices}
 use Rattle.answers.specs.declared.types.Call.TheVariants.{NoticeOf}
 use Rattle.answers.specs.Answers.{outcome, refused_by}
-use Rattle.monitor.specs.Book.{ground_of}
+use Rattle.monitor.specs.Book.{held, rules_in, ground_of}
 use Rattle.monitor.proofs.Faithfuls.{notices_right}
 use Rattle.monitor.proofs.live.Monitor.notice.Goals as goal
 
@@ -11,5 +13,6 @@ returns g c =
     let xs = g.R.Readable.states m.log in
     let own : m.book.count ≡ length xs = search rules in
     let taken : None ≡ refused_by m.book.count (ground_of m.book (g.R.Growing.room m.log)) xs (NoticeOf c.args.point c.args.k) = search rules in
+    let found : c.notice.result ≡ slice_get (notices (held m.book) (rules_in m.book) c.args.point) c.args.k = search rules in
     let right = notices_right xs m.book c.notice.ensures.order own (m.faithful own) c.args.point (omega arith) in
-    ap₂ outcome taken (rw right at c.notice.ensures.found)
+    ap₂ outcome taken (rw right at found)
