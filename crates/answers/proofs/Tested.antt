@@ -1,6 +1,6 @@
 -- The tests of a state that is to follow a record mean what they are named for, so an append is taken exactly if its state may
 -- follow and the record has room.
-use Rattle.std.proofs.Common.{◌≡◌, ℕ, suc, ◌+◌, ◌-◌, ◌<◌, ◌≤◌, Bool, true, false, eqb, leb, List, [], ◌∷◌, ◌++◌, length, None, Decides, sym, refl, ap, ◌∙◌, subst, add-one, arith}
+use Rattle.std.proofs.Common.{◌≡◌, ℕ, suc, ◌+◌, ◌<◌, ◌≤◌, Bool, true, false, eqb, leb, List, [], ◌∷◌, ◌++◌, length, None, Decides, sym, refl, subst, add-one}
 use Rattle.std.proofs.lemmas.Bool.Decides.{Decides-below_or, Decides-and, Decides-or, Decides-ltb, Decides-eqb, not_from_Decides}
 use Rattle.std.proofs.lemmas.Bool.{leb-true, leb-false, le-leb, lt-leb}
 use Rattle.logic.specs.declared.types.Reference.{Reference}
@@ -9,7 +9,7 @@ use Rattle.logic.specs.States.{state_at}
 use Rattle.logic.specs.Lawful.{NominalTaken, Unfit, ReferenceUnfit, LawfulRecord}
 use Rattle.refusals.specs.declared.Refusal.TheVariants as refusal
 use Rattle.lawful.specs.Unlawful.{joined, MayFollow}
-use Rattle.lawful.proofs.Joins.{joined_new, taken_joined, misled_joined, lawful_more}
+use Rattle.lawful.proofs.Joins.{taken_joined, misled_joined, lawful_more}
 use Rattle.answers.specs.Tests.{carried_to, taken, unfit, misled}
 use Rattle.answers.specs.Answers.{Ground}
 use Rattle.answers.specs.Law.{Takes}
@@ -22,23 +22,8 @@ carried_decides xs a m =
     (λ k. subst (λ i. Decides (eqb (state_at xs (suc k)).nominal a) ((state_at xs i).nominal ≡ a)) (sym (add-one k)) (Decides-eqb (state_at xs (suc k)).nominal a))
     refl (λ _. refl) m
 
--- the same by the states' numbers
-named_decides : (xs : List State) (a : ℕ) → Decides (carried_to xs a (length xs)) ((i : ℕ) × (1 ≤ i) × (i ≤ length xs) × ((state_at xs i).nominal ≡ a))
-named_decides xs a =
-    let d = carried_decides xs a (length xs) in (
-      (λ t. let w = d.0 t in (w.0 + 1, omega arith, omega (arith, w.1), w.2)),
-      (λ w. d.1 (w.0 - 1, omega (arith, w.1, w.2), ap (λ j. (state_at xs j).nominal) (omega (arith, w.1)) ∙ w.3)),
-    )
-
 pub taken_decides : (xs : List State) (x : State) → Decides (taken xs x) (NominalTaken (joined xs x) (length xs + 1))
-taken_decides xs x =
-    let d : Decides (taken xs x) ((0 < x.nominal) × ((i : ℕ) × (1 ≤ i) × (i ≤ length xs) × ((state_at xs i).nominal ≡ x.nominal))) =
-    Decides-and _ _ (Decides-ltb 0 x.nominal) (named_decides xs x.nominal) in (
-      (λ t. (taken_joined xs x (taken xs x) (d.0 t).0 ((λ u. (d.0 u).1), (λ w. d.1 ((d.0 t).0, w)))).0 t),
-      (λ n.
-          let pos : 0 < x.nominal = subst (λ k. 0 < k) (ap (λ (q : State). q.nominal) (joined_new xs x)) n.0 in
-          (taken_joined xs x (taken xs x) pos ((λ u. (d.0 u).1), (λ w. d.1 (pos, w)))).1 n),
-    )
+taken_decides xs x = taken_joined xs x (taken xs x) (Decides-and _ _ (Decides-ltb 0 x.nominal) (carried_decides xs x.nominal (length xs)))
 
 decides_leb : (a b : ℕ) → Decides (leb a b) (a ≤ b)
 decides_leb a b = (leb-true a b, le-leb a b)

@@ -1,7 +1,6 @@
 // A table with all fifteen operators.
 use logic::types::{Formula, Rule};
 use table::defects::Defect;
-use table::draft::Draft;
 use table::finished::Table;
 
 const FORMULAS: [Formula; 22] = [
@@ -32,13 +31,11 @@ const FORMULAS: [Formula; 22] = [
 ];
 
 pub fn full_table() -> Result<Table, Defect> {
-    let mut draft = Draft::new();
-    for formula in FORMULAS {
-        draft.add_formula(formula)?;
-    }
-    draft.add_rule(Rule {
-        condition: 1,
-        content: 9,
-    })?;
-    draft.finish()
+    Table::of(
+        &FORMULAS,
+        &[Rule {
+            condition: 1,
+            content: 9,
+        }],
+    )
 }

@@ -8,8 +8,6 @@ use records::rows::Rows;
 use refusals::Refusal;
 use std::process::Abort;
 use std::test::Fail;
-use table::defects::Defect;
-use table::draft::Draft;
 use table::finished::Table;
 
 pub fn plain(signals: u32) -> State {
@@ -34,21 +32,13 @@ pub fn referring(signals: u32, kind: u8, target: u16) -> State {
 }
 
 // The table of these formulas, with a rule of the last one.
-fn drafted(formulas: &[Formula]) -> Result<Table, Defect> {
-    let mut draft = Draft::new();
-    let mut last = 0;
-    for formula in formulas {
-        last = draft.add_formula(*formula)?;
-    }
-    draft.add_rule(Rule {
+pub fn table_of(formulas: &[Formula]) -> Result<Table, Fail> {
+    let last = formulas.len().saturating_sub(1);
+    let rule = Rule {
         condition: last,
         content: last,
-    })?;
-    draft.finish()
-}
-
-pub fn table_of(formulas: &[Formula]) -> Result<Table, Fail> {
-    drafted(formulas).map_err(|_| Fail::new("no table"))
+    };
+    Table::of(formulas, &[rule]).map_err(|_| Fail::new("no table"))
 }
 
 // The refusal's number and place, or 0 and the number of states.

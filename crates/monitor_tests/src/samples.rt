@@ -1,8 +1,6 @@
 // The states and the table of the tests.
 use logic::types::{Formula, Reference, Rule, State};
 use std::test::Fail;
-use table::defects::Defect;
-use table::draft::Draft;
 use table::finished::Table;
 
 pub const SIGNAL: usize = 0;
@@ -44,19 +42,8 @@ const LIST_OF_RULES: [Rule; RULES] = [
     },
 ];
 
-fn drafted() -> Result<Table, Defect> {
-    let mut draft = Draft::new();
-    for formula in LIST {
-        draft.add_formula(formula)?;
-    }
-    for rule in LIST_OF_RULES {
-        draft.add_rule(rule)?;
-    }
-    draft.finish()
-}
-
 pub fn table() -> Result<Table, Fail> {
-    drafted().map_err(|_| Fail::new("no table"))
+    Table::of(&LIST, &LIST_OF_RULES).map_err(|_| Fail::new("no table"))
 }
 
 pub fn plain(signals: u32) -> State {
