@@ -7,7 +7,7 @@ ghost use Rattle.logic.specs.Lawful.{LawfulTo};
 ghost use Rattle.logic.specs.Logic.{Tree, Refers};
 ghost use Rattle.logic.specs.Tables.{node, tree, binds, EachPart, InRange, OrderlyTable, Flagged};
 ghost use Rattle.labelling.specs.Rows.{row};
-ghost use Rattle.labelling.specs.Props.{OrderlyTable-prop};
+ghost use Rattle.table.specs.Order.{OrderlyTable-prop};
 ghost use Rattle.labelling.specs.Tells.{Tells, NamedState, Here, leaf};
 
 use crate::rows::{
