@@ -1,16 +1,16 @@
 -- What an append is refused for, and what it leaves. Assumes nothing.
-use Rattle.std.proofs.Common.{◌≡◌, ℕ, ◌+◌, ◌<◌, Bool, true, false, cond, eqb, List, [], ◌∷◌, ◌++◌, length, Some, None, Ok, Err, Option, Result, sym, refl, ap, ◌∙◌, subst, ⊎_elim, arith, MatchOption}
+use Rattle.std.proofs.Common.{◌≡◌, ℕ, ◌+◌, ◌<◌, ◌≤◌, Bool, true, false, cond, eqb, List, [], ◌∷◌, ◌++◌, length, Some, None, Ok, Err, Option, Result, sym, refl, ap, ◌∙◌, subst, ⊎_elim, arith, length-append, MatchOption}
 use Rattle.std.proofs.lemmas.Bool.{eq-eqb, eqb-true, lt-leb, cond-true, cond-false, cases_Bool}
 use Rattle.logic.specs.declared.types.State.{State}
 use Rattle.records.specs.Growth.{Appended}
-use Rattle.logic.specs.Lawful.{NominalTaken, ReferenceUnfit}
+use Rattle.logic.specs.Lawful.{NominalTaken, ReferenceUnfit, LawfulRecord}
 use Rattle.refusals.specs.declared.Refusal.{Refusal}
 use Rattle.refusals.specs.declared.Refusal.TheVariants as refusal
 use Rattle.lawful.specs.Unlawful.{joined, MayFollow, MayNotFollow}
 use Rattle.answers.specs.declared.types.Call.TheVariants.{Append}
 use Rattle.answers.specs.Tests.{taken, misled}
 use Rattle.answers.specs.Answers.{Ground, refusal_of, refused_by}
-use Rattle.answers.proofs.Tested.{taken_decides, misled_decides, fit_takes}
+use Rattle.answers.proofs.Tested.{taken_decides, misled_decides, fit_takes, takes_fit, takes_lawful}
 
 module _ (own : ℕ) (G : Ground) (xs : List State) (x : State) (mine : own ≡ length xs) where
   own_refusal : refusal_of G xs (Append x) ≡ refused_by own G xs (Append x)
@@ -61,6 +61,18 @@ module _ (own : ℕ) (G : Ground) (xs : List State) (x : State) (free : refused_
   pub takes : refusal_of G xs (Append x) ≡ None
   takes = (none_only (eqb own (length xs)) (refusal_of G xs (Append x)) free).1
 
-pub appended_ok : {U E : Type 0} (xs : List State) (room : ℕ) (x : State) (r : Result U E) (ys : List State) → Appended xs room x r ys → length xs < room → ys ≡ xs ++ x ∷ []
+appended_ok : {U E : Type 0} (xs : List State) (room : ℕ) (x : State) (r : Result U E) (ys : List State) → Appended xs room x r ys → length xs < room → ys ≡ xs ++ x ∷ []
 appended_ok xs room x (Ok u) ys h less = h.1
 appended_ok xs room x (Err e) ys h less = absurd (omega (arith, h.0))
+
+-- the record that an append leaves which no refusal fits
+pub grown : {U E : Type 0} (own : ℕ) (G : Ground) (xs ys : List State) (x : State) (r : Result U E) → refused_by own G xs (Append x) ≡ None
+    → (own ≡ length xs → LawfulRecord xs) → Appended xs G.capacity x r ys
+    → (ys ≡ xs ++ x ∷ []) × (LawfulRecord ys × (length ys ≤ 256))
+grown own G xs ys x r free law h =
+    let taken = takes own G xs x free in
+    let fit = takes_fit G xs x taken in
+    let e : ys ≡ xs ++ x ∷ [] = appended_ok xs G.capacity x r ys h fit.1 in (
+      e,
+      (subst LawfulRecord (sym e) (takes_lawful G xs x (law (own_count own G xs x free)) taken), omega (arith, ap length e ∙ length-append xs (x ∷ []), fit.0.0)),
+    )

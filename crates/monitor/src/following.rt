@@ -27,14 +27,12 @@ impl Book {
         }
     }
 
-    // Labels the states of a lawful record and counts the tallies by their labels. The labelling is never declined, since the
-    // memory suffices for 64 formulas at 256 states.
+    // Labels the states of a record and counts the tallies by their labels. A lawful record of at most 256 states is never
+    // declined, since the memory suffices for 64 formulas.
     pub(crate) fn follow<R: Readable>(&mut self, log: &R)
-        requires lawful { LawfulRecord (R.states log.now) }
-        requires small { length (R.states log.now) ≤ 256 }
         ensures table { self.new.table ≡ self.old.table }
-        ensures counted { self.new.count ≡ length (R.states log.now) }
-        ensures right { Right (R.states log.now) self.new }
+        ensures counted { LawfulRecord (R.states log.now) → length (R.states log.now) ≤ 256 → self.new.count ≡ length (R.states log.now) }
+        ensures right { LawfulRecord (R.states log.now) → length (R.states log.now) ≤ 256 → Right (R.states log.now) self.new }
     {
         if let Ok(n) = label_whole(&self.table, log, &mut self.cells, &mut self.work) {
             self.count = n;

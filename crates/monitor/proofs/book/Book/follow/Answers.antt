@@ -11,7 +11,7 @@ few : (t : Table) → length (formulas_of t.draft) ≤ 64
 few t = let h = length-take t.draft.count t.draft.formulas in omega (arith, t.draft.few)
 
 pub returns-in-Ok-clause-right : goal.returns-in-Ok-clause-right
-returns-in-Ok-clause-right g c =
+returns-in-Ok-clause-right g c law small =
     let xs = g.R.Readable.states c.args.log.now in
     let old = c.args.self.now in
     let b = c.recount.new.self in
@@ -20,10 +20,15 @@ returns-in-Ok-clause-right g c =
     let labelled : Labelled dates 256 (table_of b) xs old.cells old.work b.cells c.label_whole.new.work =
     subst (λ (t : Table). Labelled dates 256 (formulas_of t.draft) xs old.cells old.work b.cells c.label_whole.new.work) (sym same.0)
     (subst (λ (ys : List Dated). Labelled dates 256 (formulas_of old.table.draft) xs old.cells old.work ys c.label_whole.new.work) (sym same.2) done.1) in
-    let p = enough (length (table_of b)) (length xs) (few b.table) c.requires.small in
-    right_after xs b old.cells old.work c.label_whole.new.work labelled (same.1 ∙ done.0) c.requires.small (omega (arith, b.wide)) c.recount.ensures.right
+    let p = enough (length (table_of b)) (length xs) (few b.table) small in
+    right_after xs b old.cells old.work c.label_whole.new.work labelled (same.1 ∙ done.0) small (omega (arith, b.wide)) c.recount.ensures.right
 
-pub returns-in_default : goal.returns-in_default
-returns-in_default g c =
+pub returns-in_default-clause-counted : goal.returns-in_default-clause-counted
+returns-in_default-clause-counted g c law small =
     let old = c.args.self.now in
-    absurd (not_declined (formulas_of old.table.draft) (g.R.Readable.states c.args.log.now) (length old.cells) (length old.work) (few old.table) c.requires.small c.requires.lawful old.wide old.spare c.in_default.field-0 c.in_default.ensures.0)
+    absurd (not_declined (formulas_of old.table.draft) (g.R.Readable.states c.args.log.now) (length old.cells) (length old.work) (few old.table) small law old.wide old.spare c.in_default.field-0 c.in_default.ensures.0)
+
+pub returns-in_default-clause-right : goal.returns-in_default-clause-right
+returns-in_default-clause-right g c law small =
+    let old = c.args.self.now in
+    absurd (not_declined (formulas_of old.table.draft) (g.R.Readable.states c.args.log.now) (length old.cells) (length old.work) (few old.table) small law old.wide old.spare c.in_default.field-0 c.in_default.ensures.0)

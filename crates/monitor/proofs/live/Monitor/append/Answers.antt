@@ -1,18 +1,26 @@
-use Rattle.std.proofs.Common.{◌≡◌, [], ◌∷◌, ◌++◌, sym, subst}
-use Rattle.logic.specs.Lawful.{LawfulRecord}
-use Rattle.answers.proofs.Tested.{takes_fit, takes_lawful}
+use Rattle.std.proofs.Common.{◌≡◌, ◌+◌, [], ◌∷◌, length, Ok, Option, sym, ap, ◌∙◌, length-append}
+use Rattle.refusals.specs.declared.Refusal.{Refusal}
+use Rattle.answers.specs.Answers.{outcome}
 use Rattle.monitor.specs.Book.{ground_of}
-use Rattle.monitor.proofs.Appending.{own_count, takes, appended_ok}
+use Rattle.monitor.proofs.Appending.{grown}
 use Rattle.monitor.proofs.live.Monitor.append.Goals as goal
 
-pub follow-requires-clause-lawful : goal.follow-requires-clause-lawful
-follow-requires-clause-lawful g c =
+pub invariant_of-self : goal.invariant_of-self
+invariant_of-self g c =
     let m = c.args.self.now in
+    let now = grown m.book.count (ground_of m.book (g.R.Growing.room m.log)) (g.R.Readable.states m.log) (g.R.Readable.states c.append.new.self) c.args.state c.append.result c.in_ok-admit.ensures (λ own. (m.faithful own).lawful) c.append.ensures.appended in
+    record { faithful = λ own. c.follow.ensures.right now.1.0 now.1.1 }
+
+pub returns-clause-told : goal.returns-clause-told
+returns-clause-told g c =
+    let m = c.args.self.now in
+    let now = grown m.book.count (ground_of m.book (g.R.Growing.room m.log)) (g.R.Readable.states m.log) (g.R.Readable.states c.append.new.self) c.args.state c.append.result c.in_ok-admit.ensures (λ own. (m.faithful own).lawful) c.append.ensures.appended in
     let xs = g.R.Readable.states m.log in
-    let ys = g.R.Readable.states c.append.new.self in
-    let x = c.args.state in
-    let G = ground_of m.book (g.R.Growing.room m.log) in
-    let mine = own_count m.book.count G xs x c.in_ok-admit.ensures in
-    let taken = takes m.book.count G xs x c.in_ok-admit.ensures in
-    let grown : ys ≡ xs ++ x ∷ [] = appended_ok xs (g.R.Growing.room m.log) x c.append.result ys c.append.ensures.appended (takes_fit G xs x taken).1 in
-    subst LawfulRecord (sym grown) (takes_lawful G xs x (m.faithful mine).lawful taken)
+    let count : c.follow.new.self.count ≡ length xs + 1 = c.follow.ensures.counted now.1.0 now.1.1 ∙ ap length now.0 ∙ length-append xs (c.args.state ∷ []) in
+    ap (λ n. Ok n) count ∙ sym (ap (λ (o : Option Refusal). outcome o (length xs + 1)) c.in_ok-admit.ensures)
+
+pub returns-clause-counted : goal.returns-clause-counted
+returns-clause-counted g c _ =
+    let m = c.args.self.now in
+    let now = grown m.book.count (ground_of m.book (g.R.Growing.room m.log)) (g.R.Readable.states m.log) (g.R.Readable.states c.append.new.self) c.args.state c.append.result c.in_ok-admit.ensures (λ own. (m.faithful own).lawful) c.append.ensures.appended in
+    c.follow.ensures.counted now.1.0 now.1.1
