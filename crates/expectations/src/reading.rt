@@ -14,7 +14,7 @@ pub fn verdict_of(label: Label, point: usize) -> Verdict
     }
 }
 
-// The label is true from this point on, and not earlier.
+// The label is true from this point on, and not earlier. Two names and not one with a flag, since callers mean one of the two.
 pub fn is_true_from(label: Label, point: usize) -> bool
     ensures { result ≡ true_from label point }
 {

@@ -29,7 +29,7 @@ impl Standing {
         }
     }
 
-    // The date of the decision, or 0.
+    // The date of the decision, or 0, which an answer without one has.
     pub fn date(self) -> usize
         ensures { result ≡ (of_standing self).date }
     {

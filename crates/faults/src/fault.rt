@@ -8,7 +8,7 @@ use crate::layer::Layer;
 pub trait Fault: Sized {
     ghost told: { Self → Refusal };
 
-    // The number of the refusal.
+    // The number of the refusal, as it is written; code matches on the cases.
     fn number(self) -> u8
         ensures { result ≡ (told self).number };
 
@@ -16,7 +16,7 @@ pub trait Fault: Sized {
     fn layer(self) -> Layer
         ensures { result ≡ (told self).layer };
 
-    // The line or the state that is refused, or 0.
+    // The line or the state that is refused, or 0, which is written for a refusal of neither.
     fn place(self) -> usize
         ensures { result ≡ (told self).place };
 }

@@ -10,7 +10,8 @@ const LINE_END: u8 = b'\n';
 
 const LINE_LIMIT: usize = 80;
 
-// The first line of a text, without the byte that ends it; `place` is the line's, for a refusal.
+// The first line of a text, without the byte that ends it; `place` is the line's, for a refusal. It stays a parameter beside
+// the text, here and in the readers: only a refusal names it, and each caller counts it in its own way.
 pub fn first_line(text: &[u8], place: usize) -> Result<&[u8], LineFault>
     ensures { MatchResult result (λ line. FirstLine text.now line.now (drop (length line.now + 1) text.now)) (λ e. (e ≡ LineFault.Torn place) × Torn text.now) }
 {

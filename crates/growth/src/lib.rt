@@ -9,7 +9,7 @@ use expectations::types::Label;
 use labels::LabelKind;
 use labels::dated::Dated;
 
-// The label that a dated number stands for.
+// The label that a dated number stands for. The casts keep their numbers, and a conversion would add a failure that never comes.
 pub fn label_told(x: Dated) -> Label
     ensures { result ≡ label_of_number x.value }
 {

@@ -5,7 +5,7 @@ use logic::types::{Reference, State};
 use records::readable::NO_REFERENCE;
 
 // The signals of the states are the lowest digits of k in base 4, the next digit is the state with nominal 1, or 0 for none,
-// and the next one is the reference of the last state.
+// and the next one is the reference of the last state. A digit is below 4, so each cast keeps its number.
 pub fn numbered_log(k: usize) -> [State; 3]
     ensures count { length result ≡ 3 }
     ensures first { (d : State) → (slice_index_or result 0 d).signals ≡ k % 4 }

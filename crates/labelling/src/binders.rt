@@ -27,6 +27,7 @@ struct Binder<'a, R: Readable> {
     ghost ready: { Ready job.now.table.now wanted part },
 }
 
+// What the cells of the formulas before tell stands in the clauses, since they are lent to each call.
 impl<'a, R: Readable> Binder<'a, R> {
     // Labels the wanted formulas, which are loose, with the variable bound to v.
     fn label_bound<K: LabelKind + Copy>(&self, v: usize, before: &mut [K])
@@ -35,6 +36,7 @@ impl<'a, R: Readable> Binder<'a, R> {
         ensures told { AllTold K.reads K.reach self.now.job.now.n (state_at (R.states self.now.job.now.log.now)) self.now.job.now.table.now self.now.wanted v before.new self.now.f }
     {
         let n = self.job.n;
+        // By number: g is a formula, whose row is split off by it.
         for g in 0..self.f {
             if self.wanted[g] {
                 let (low, rest) = before.split_at_mut(g * n);

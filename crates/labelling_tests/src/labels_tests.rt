@@ -5,6 +5,7 @@ use labels::LabelKind;
 use labels::dated::Dated;
 use logic::types::{Formula, State};
 use records::rows::Rows;
+use sample_states::{named, plain};
 use std::test::Fail;
 
 #[test]
@@ -122,7 +123,7 @@ fn memory_after(rt: HostRuntime) -> Result<(), Fail> {
     let mut work = [Dated::false_from(9); 8];
     assert_eq!(rt;
         outcome(label_whole(&table, &Rows::new(&log), &mut labels, &mut work)),
-        (0, 2)
+        Ok(2)
     );
     has_values(&rt, &labels, &[0, 0, 0, 0, 256, 255, 248, 248]);
     has_values(&rt, &work, &[0, 0, 0, 0, 0, 0, -248, -248]);

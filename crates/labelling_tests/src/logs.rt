@@ -6,23 +6,10 @@ use labels::dated::Dated;
 use logic::types::{Formula, Reference, Rule, State};
 use records::rows::Rows;
 use refusals::Refusal;
+use sample_states::plain;
 use std::process::Abort;
 use std::test::Fail;
 use table::finished::Table;
-
-pub fn plain(signals: u32) -> State {
-    State {
-        signals,
-        ..State::default()
-    }
-}
-
-pub fn named(signals: u32, nominal: u8) -> State {
-    State {
-        nominal,
-        ..plain(signals)
-    }
-}
 
 pub fn referring(signals: u32, kind: u8, target: u16) -> State {
     State {
@@ -41,12 +28,9 @@ pub fn table_of(formulas: &[Formula]) -> Result<Table, Fail> {
     Table::of(formulas, &[rule]).map_err(|_| Fail::new("no table"))
 }
 
-// The refusal's number and place, or 0 and the number of states.
-pub fn outcome(answer: Result<usize, Refusal>) -> (u8, usize) {
-    match answer {
-        Ok(n) => (0, n),
-        Err(refusal) => (refusal.number(), refusal.place()),
-    }
+// The number of states, or the refusal's number and place.
+pub fn outcome(answer: Result<usize, Refusal>) -> Result<usize, (u8, usize)> {
+    answer.map_err(|refusal| (refusal.number(), refusal.place()))
 }
 
 // The last formula is labelled so at the states, in dated numbers.
@@ -59,10 +43,7 @@ pub fn has_labels(
     let table = table_of(formulas)?;
     let mut labels = [Dated::true_from(9); 64];
     let mut work = [Dated::true_from(9); 64];
-    assert_eq!(rt;
-        outcome(label_whole(&table, &Rows::new(log), &mut labels, &mut work)).0,
-        0
-    );
+    assert!(rt; label_whole(&table, &Rows::new(log), &mut labels, &mut work).is_ok());
     let n = log.len();
     assert!(rt; n == expected.len() && n <= 64 && formulas.len() <= 64 && !formulas.is_empty());
     let last = (formulas.len() - 1) * n;

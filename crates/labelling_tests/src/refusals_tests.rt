@@ -5,6 +5,7 @@ use labels::LabelKind;
 use labels::dated::Dated;
 use logic::types::{Formula, State};
 use records::rows::Rows;
+use sample_states::{named, plain};
 use std::process::Abort;
 use std::test::Fail;
 use strips::Strip;
@@ -12,7 +13,12 @@ use strips::Strip;
 const PAIR: [Formula; 2] = [Formula::Signal(0), Formula::Not(0)];
 
 // Labels a log in dated labels over so many label cells and working cells, of 8 at most.
-fn tried(rt: &impl Abort, log: &[State], cells: usize, room: usize) -> Result<(u8, usize), Fail> {
+fn tried(
+    rt: &impl Abort,
+    log: &[State],
+    cells: usize,
+    room: usize,
+) -> Result<Result<usize, (u8, usize)>, Fail> {
     let table = table_of(&PAIR)?;
     let mut labels = [Dated::true_from(9); 8];
     let mut work = [Dated::true_from(9); 8];
@@ -33,11 +39,11 @@ fn length_of_strips(rt: HostRuntime) -> Result<(), Fail> {
     let mut work = [Strip::unknown(); 65];
     assert_eq!(rt;
         outcome(label_whole(&table, &Rows::new(&log), &mut labels, &mut work)),
-        (7, 0)
+        Err((7, 0))
     );
     assert_eq!(rt;
         outcome(label_whole(&table, &Rows::new(&log[0..64]), &mut labels, &mut work)),
-        (0, 64)
+        Ok(64)
     );
     assert!(rt;
         !labels[63].read(true, 64) && labels[63].read(true, 63) && labels[64].read(true, 64)
@@ -53,11 +59,11 @@ fn length_of_dates(rt: HostRuntime) -> Result<(), Fail> {
     let mut work = [Dated::unknown(); 257];
     assert_eq!(rt;
         outcome(label_whole(&table, &Rows::new(&log), &mut labels, &mut work)),
-        (7, 0)
+        Err((7, 0))
     );
     assert_eq!(rt;
         outcome(label_whole(&table, &Rows::new(&log[0..256]), &mut labels, &mut work)),
-        (0, 256)
+        Ok(256)
     );
     assert!(rt; labels[255].value() == -1 && labels[256].value() == 0);
     Ok(())
@@ -66,10 +72,10 @@ fn length_of_dates(rt: HostRuntime) -> Result<(), Fail> {
 #[test]
 fn short_memory(rt: HostRuntime) -> Result<(), Fail> {
     let log = [plain(0), plain(0), plain(0)];
-    assert_eq!(rt; tried(&rt, &log, 5, 8)?, (9, 0));
-    assert_eq!(rt; tried(&rt, &log, 8, 5)?, (9, 0));
-    assert_eq!(rt; tried(&rt, &log, 6, 6)?, (0, 3));
-    assert_eq!(rt; tried(&rt, &[], 0, 0)?, (0, 0));
+    assert_eq!(rt; tried(&rt, &log, 5, 8)?, Err((9, 0)));
+    assert_eq!(rt; tried(&rt, &log, 8, 5)?, Err((9, 0)));
+    assert_eq!(rt; tried(&rt, &log, 6, 6)?, Ok(3));
+    assert_eq!(rt; tried(&rt, &[], 0, 0)?, Ok(0));
     Ok(())
 }
 
@@ -77,15 +83,21 @@ fn short_memory(rt: HostRuntime) -> Result<(), Fail> {
 fn unlawful_states(rt: HostRuntime) -> Result<(), Fail> {
     assert_eq!(rt;
         tried(&rt, &[named(0, 3), plain(0), named(0, 3)], 8, 8)?,
-        (10, 3)
+        Err((10, 3))
     );
-    assert_eq!(rt; tried(&rt, &[plain(0), referring(0, 2, 2)], 8, 8)?, (11, 2));
-    assert_eq!(rt; tried(&rt, &[plain(0), referring(0, 2, 1)], 8, 8)?, (0, 2));
+    assert_eq!(rt;
+        tried(&rt, &[plain(0), referring(0, 2, 2)], 8, 8)?,
+        Err((11, 2))
+    );
+    assert_eq!(rt; tried(&rt, &[plain(0), referring(0, 2, 1)], 8, 8)?, Ok(2));
     assert_eq!(rt;
         tried(&rt, &[plain(0), referring(0, 16, 1)], 8, 8)?,
-        (11, 2)
+        Err((11, 2))
     );
-    assert_eq!(rt; tried(&rt, &[plain(0), referring(0, 0, 1)], 8, 8)?, (11, 2));
+    assert_eq!(rt;
+        tried(&rt, &[plain(0), referring(0, 0, 1)], 8, 8)?,
+        Err((11, 2))
+    );
     Ok(())
 }
 
@@ -95,13 +107,13 @@ fn first_refusal(rt: HostRuntime) -> Result<(), Fail> {
         nominal: 3,
         ..referring(0, 2, 9)
     };
-    assert_eq!(rt; tried(&rt, &[named(0, 3), both], 3, 8)?, (9, 0));
-    assert_eq!(rt; tried(&rt, &[named(0, 3), both], 8, 8)?, (10, 2));
+    assert_eq!(rt; tried(&rt, &[named(0, 3), both], 3, 8)?, Err((9, 0)));
+    assert_eq!(rt; tried(&rt, &[named(0, 3), both], 8, 8)?, Err((10, 2)));
     assert_eq!(rt;
         tried(&rt, &[named(0, 3), referring(0, 2, 2), named(0, 3)], 8, 8)?,
-        (11, 2)
+        Err((11, 2))
     );
-    assert_eq!(rt; tried(&rt, &[both; 257], 0, 0)?, (7, 0));
+    assert_eq!(rt; tried(&rt, &[both; 257], 0, 0)?, Err((7, 0)));
     Ok(())
 }
 
@@ -113,7 +125,7 @@ fn memory_after_refusal(rt: HostRuntime) -> Result<(), Fail> {
     let mut work = [Dated::false_from(9); 4];
     assert_eq!(rt;
         outcome(label_whole(&table, &Rows::new(&log), &mut labels, &mut work)),
-        (10, 2)
+        Err((10, 2))
     );
     has_values(&rt, &labels, &[248, 248, 248, 248]);
     has_values(&rt, &work, &[-248, -248, -248, -248]);

@@ -89,7 +89,8 @@ impl Dated {
         self.value
     }
 
-    // The point from which the label is true, or 0 if it is true at none.
+    // The point from which the label is true, or 0 if it is true at none: a date of truth is a number in any case. The casts here
+    // keep their numbers, and a conversion would add a failure that never comes.
     pub fn date_of_truth(self) -> usize
         ensures ever { pos 0 <ℤ self.value → pos result +ℤ self.value ≡ pos 257 }
         ensures never { self.value ≤ℤ pos 0 → result ≡ 0 }
@@ -102,7 +103,7 @@ impl Dated {
         }
     }
 
-    // The point from which the label is false, or 0 if it is false at none.
+    // The point from which the label is false, or 0 if it is false at none: a number in any case.
     #[tactic(auto, using(crate::proofs::Dates::date_same))]
     pub fn date_of_falsehood(self) -> usize
         ensures ever { self.value <ℤ pos 0 → pos result ≡ self.value +ℤ pos 257 }

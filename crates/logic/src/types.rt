@@ -1,7 +1,8 @@
 // The states of a log, the formulas of a table and its rules, as plain values.
 
 // A reference of a state to a state: its kind, from 1 to 15, and the number of the state referred to. Kind 0 with target 0 is
-// no reference. (On the shop floor: a link.)
+// no reference. (On the shop floor: a link.) Two numbers, and no Option: a log may show kind 0 with a target, which has a
+// refusal of its own.
 #[derive(Drop, Clone, Copy, PartialEq, Eq, Debug, Default)]
 pub struct Reference {
     pub kind: u8,
@@ -9,7 +10,7 @@ pub struct Reference {
 }
 
 // One state of a log: signal b is bit b of `signals`, the lowest being bit 0. A nominal names at most one state of a log, and
-// 0 is no nominal. (On the shop floor: a mark.)
+// 0 is no nominal, as texts write it and a state that is not held reads. (On the shop floor: a mark.)
 #[derive(Drop, Clone, Copy, PartialEq, Eq, Debug, Default)]
 pub struct State {
     pub signals: u32,
@@ -19,7 +20,8 @@ pub struct State {
 }
 
 // One formula of a table, over the numbers of its parts. `Variable` and `Reference` speak of the state that a `Bind` or a
-// `Some` above them binds; `Reference` is a state-referencing proposition (on the shop floor: a link).
+// `Some` above them binds; `Reference` is a state-referencing proposition (on the shop floor: a link). Parts are numbers, and
+// no boxes: texts and queries name formulas so, a part may serve several formulas, and there is no heap.
 #[derive(Drop, Clone, Copy, PartialEq, Eq, Debug)]
 pub enum Formula {
     True,

@@ -5,7 +5,8 @@ use labels::dated::Dated;
 use table::finished::Table;
 
 // What a monitor keeps beside its record: the table with its rules, how many states it has labelled, their labels (formula f at
-// state i of `count` has cell f * count + i - 1), working memory, and the tally of each rule.
+// state i of `count` has cell f * count + i - 1), working memory, and the tally of each rule. The memory is fixed, without a
+// heap.
 #[derive(Drop, Clone, Copy)]
 pub struct Book {
     pub(crate) table: Table,

@@ -9,6 +9,7 @@ use records::change_record::ChangeRecord;
 use records::growing::Growing;
 use records::readable::{BLANK, Readable};
 use records::table::TableRecord;
+use sample_states::{named, plain};
 use std::process::Abort;
 use std::test::Fail;
 

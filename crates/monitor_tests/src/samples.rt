@@ -46,18 +46,6 @@ pub fn table() -> Result<Table, Fail> {
     Table::of(&LIST, &LIST_OF_RULES).map_err(|_| Fail::new("no table"))
 }
 
-pub fn plain(signals: u32) -> State {
-    named(signals, 0)
-}
-
-pub fn named(signals: u32, nominal: u8) -> State {
-    State {
-        signals,
-        nominal,
-        ..State::default()
-    }
-}
-
 pub fn referring(kind: u8, target: u16) -> State {
     State {
         first: Reference { kind, target },

@@ -6,7 +6,7 @@ use crate::readable::Readable;
 use crate::rows::Rows;
 use logic::types::State;
 
-// The first `count` rows are the states.
+// The first `count` rows are the states. The rows are memory that is lent, so that a count stands beside them.
 #[derive(Drop)]
 pub struct TableRecord<'a> {
     rows: &'a mut [State],

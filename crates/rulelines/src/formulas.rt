@@ -13,6 +13,7 @@ use logic::types::Formula;
 fn formula_in(entry: Entry, k: usize) -> Option<Formula>
     ensures { MatchOption result (Ranged k entry → ⊥) (λ φ. Ranged k entry × (φ ≡ meaning entry)) }
 {
+    // A cast, since no `From` leads from `usize` to `u64`.
     if entry.number != k as u64 || !in_range(entry.operator, entry.a, entry.b) {
         return None;
     }

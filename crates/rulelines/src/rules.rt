@@ -38,6 +38,7 @@ fn numbers_of(line: &[u8]) -> Option<Numbers>
 fn rule_of(v: Numbers, k: usize) -> Option<Rule>
     ensures { MatchOption result (Ranged k v.number (rule_of_lem v) → ⊥) (λ u. Ranged k v.number (rule_of_lem v) × (u ≡ rule_of_lem v)) }
 {
+    // A cast, since no `From` leads from `usize` to `u64`.
     if v.number != k as u64 || v.condition > NUMBER_LIMIT || v.content > NUMBER_LIMIT {
         return None;
     }

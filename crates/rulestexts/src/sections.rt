@@ -25,7 +25,7 @@ pub(crate) struct Section {
     pub(crate) used: usize,
 }
 
-// The two readers below stay apart: one loop for both would take from its caller what a line is, how it joins and what the
+// The two readers below count the lines, since a line is given its number and its place. They stay apart: one loop for both would take from its caller what a line is, how it joins and what the
 // promise says of it, which is more than each of them has.
 
 // The formulas that a text begins with.

@@ -98,7 +98,8 @@ impl LabelKind for Strip {
 }
 
 impl Strip {
-    // The point from which the label is true, or 0 if it is true at none: that of the lowest set bit.
+    // The point from which the label is true, or 0 if it is true at none: that of the lowest set bit. A date of truth is a number
+    // in any case.
     #[tactic(auto, using(crate::proofs::Bits::bit_zero, crate::proofs::Bits::lowest_within, crate::proofs::Bits::lowest_here, crate::proofs::Bits::lowest_below))]
     pub fn date_of_truth(self) -> u32
         ensures never { self.strong ≡ 0 → result ≡ 0 }
@@ -120,6 +121,7 @@ pub fn same_date(a: Dated, b: Strip) -> bool
     ensures dates { (d e : ℕ) → DateOf 256 (dated a.value) d → DateOf 64 (strip b.weak b.strong) e → result ≡ (d == e) }
     ensures meaning { Same 64 (dated a.value) (strip b.weak b.strong) → TrueBy 64 256 (dated a.value) → result ≡ true }
 {
+    // A cast, since no `From` leads from `u32` to `usize`.
     a.date_of_truth() == b.date_of_truth() as usize
 }
 

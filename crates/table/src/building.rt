@@ -9,7 +9,7 @@ use crate::finished::Table;
 use logic::types::{Formula, Rule};
 
 impl Defect {
-    // The number of the refusal.
+    // The number of the refusal, as it is written; two defects share one.
     pub fn number(self) -> u8
         ensures { result ≡ number_of self }
     {

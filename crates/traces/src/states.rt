@@ -30,6 +30,7 @@ fn reference_of(kind: u64, target: u64) -> Option<Reference>
 fn state_of(v: Numbers, count: usize) -> Option<State>
     ensures { MatchOption result ((v.state ≡ count + 1) × Allowed v.state (state_of v) → ⊥) (λ q. (v.state ≡ count + 1) × Allowed v.state (state_of v) × (q ≡ state_of v)) }
 {
+    // A cast, since no `From` leads from `usize` to `u64`.
     if count >= LAST_STATE || v.state != count as u64 + 1 {
         return None;
     }

@@ -41,6 +41,7 @@ impl<R: Growing> Watcher<R> {
         ensures { result ≡ end_line_lem (ground_of self.now.monitor.book (R.Growing.room self.now.monitor.log)) (R.Readable.states self.now.monitor.log) }
     {
         let mut tally = Tally::default();
+        // By number: a monitor is asked for the tally of rule k.
         for k in 0..self.rules {
             tally = plus(tally, self.tally_of(k));
         }

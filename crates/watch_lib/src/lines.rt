@@ -9,7 +9,8 @@ use faults::fault::Fault;
 pub enum Line {
     // A notice of a truncation point.
     Told { point: usize, notice: Notice },
-    // The number of the refusal, and the line of the input that is refused, counted from 1; 0 is the whole input.
+    // The number of the refusal, and the line of the input that is refused, counted from 1; 0 is the whole input. The number
+    // as it is written, and no fault: a fault has a line of its own, counted from where the reader began.
     Refused { number: u8, line: usize },
     // The number of states, and the sum of all rules' tallies.
     End { states: usize, tally: Tally },

@@ -30,6 +30,7 @@ impl<R: Growing> Watcher<R> {
         requires to { point ≤ length (R.Readable.states self.now.monitor.log) }
         ensures { OnOk result (lines.new.items ≡ lines.old.items ++ map (Told point) (notices (labels_of (table_of self.now.monitor.book) (R.Readable.states self.now.monitor.log)) (rules_in self.now.monitor.book) point)) }
     {
+        // By number: a monitor is asked for the k-th notice until there is none.
         let start = lines.len();
         while let Some(notice) = self.notice_at(point, lines.len() - start) {
             lines.push(Line::Told { point, notice })?;
