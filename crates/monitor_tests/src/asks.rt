@@ -93,20 +93,27 @@ pub fn adds_up<R: Growing>(rt: &impl Abort, monitor: &Monitor<R>, rule: usize) -
 // A formula or a rule, a state and a point, and the number with which a query of them is refused.
 pub type Ask = (usize, usize, usize, u8);
 
-pub fn labels_refused<R: Growing>(rt: &impl Abort, monitor: &Monitor<R>, asks: &[Ask]) {
-    for &(formula, state, point, number) in asks {
-        assert_eq!(rt;
-            told(monitor.label(formula, state, point)),
-            Err((number, 0))
-        );
+// Each query is refused with its number, at place 0.
+fn all_refused<F: Fn(usize, usize, usize) -> Option<(u8, usize)>>(
+    rt: &impl Abort,
+    asks: &[Ask],
+    refusal: F,
+)
+    requires { F.IsAlwaysCallable refusal }
+{
+    for &(name, state, point, number) in asks {
+        assert_eq!(rt; refusal(name, state, point), Some((number, 0)));
     }
 }
 
+pub fn labels_refused<R: Growing>(rt: &impl Abort, monitor: &Monitor<R>, asks: &[Ask]) {
+    all_refused(rt, asks, |formula, state, point| {
+        told(monitor.label(formula, state, point)).err()
+    });
+}
+
 pub fn standings_refused<R: Growing>(rt: &impl Abort, monitor: &Monitor<R>, asks: &[Ask]) {
-    for &(rule, state, point, number) in asks {
-        assert_eq!(rt;
-            told(monitor.standing(rule, state, point)),
-            Err((number, 0))
-        );
-    }
+    all_refused(rt, asks, |rule, state, point| {
+        told(monitor.standing(rule, state, point)).err()
+    });
 }
