@@ -10,6 +10,9 @@ const ASKED: u8 = 0;
 
 const REPLIED: u8 = 1;
 
+// The number of its content among the formulas.
+const CONTENT: usize = 2;
+
 // The table with this rule, and with a loose formula that no rule has.
 pub fn reply_table() -> Result<Table, Defect>
     ensures { ReplyTable result }
@@ -23,7 +26,7 @@ pub fn reply_table() -> Result<Table, Defect>
         ],
         &[Rule {
             condition: 0,
-            content: 2,
+            content: CONTENT,
         }],
     )
 }

@@ -50,7 +50,7 @@ fn main(rt: HostRuntime) -> io::Result<()> {
     let folder = folder_named(&rt)?;
     let names = log_names(&rt, folder.as_str())?;
     let mut as_written: usize = 0;
-    for name in names.iter() {
+    for name in &names {
         if check_log(&rt, folder.as_str(), name.as_str())? {
             as_written += 1;
         }

@@ -56,7 +56,7 @@ impl fmt::Display for Verdict {
     ghost output = { λ x. Some (of_verdict x).word };
 
     fn fmt<W: fmt::Write>(&self, f: &mut fmt::Formatter<W>) -> fmt::Result {
-        f.write_str(self.word())
+        f.write_str(Verdict::word(*self))
     }
 }
 
@@ -64,7 +64,7 @@ impl fmt::Display for Standing {
     ghost output = { λ x. Some (of_standing x).word };
 
     fn fmt<W: fmt::Write>(&self, f: &mut fmt::Formatter<W>) -> fmt::Result {
-        f.write_str(self.word())
+        f.write_str(Standing::word(*self))
     }
 }
 
@@ -72,7 +72,7 @@ impl fmt::Display for Event {
     ghost output = { λ x. Some (of_event x).word };
 
     fn fmt<W: fmt::Write>(&self, f: &mut fmt::Formatter<W>) -> fmt::Result {
-        f.write_str(self.word())
+        f.write_str(Event::word(*self))
     }
 }
 

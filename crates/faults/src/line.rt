@@ -26,9 +26,7 @@ impl Fault for LineFault {
     }
 
     fn layer(self) -> Layer {
-        match self {
-            LineFault::Torn(_) | LineFault::Form(_) | LineFault::Range(_) => Layer::Line,
-        }
+        Layer::Line
     }
 
     fn place(self) -> usize {

@@ -23,9 +23,7 @@ impl Fault for TableFault {
     }
 
     fn layer(self) -> Layer {
-        match self {
-            TableFault::Dangling(_) | TableFault::Loose(_) => Layer::Table,
-        }
+        Layer::Table
     }
 
     fn place(self) -> usize {

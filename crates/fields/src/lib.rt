@@ -4,5 +4,5 @@
 pub mod lines;
 pub mod numbers;
 pub mod parts;
-pub mod places;
+mod places;
 pub mod values;

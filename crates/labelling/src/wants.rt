@@ -53,7 +53,7 @@ impl<'a, R: Readable> Job<'a, R> {
         // One flag for each formula: fixed memory, for there is no heap.
         let mut wanted = [false; 64];
         want(a, self.flags, &mut wanted);
-        // By number, from a part down to what it is made of.
+        // By number, from a part down to what it is made of. Not `0..=a`, over which the loop's invariant did not close.
         for g in (0..a + 1).rev() {
             if wanted[g] {
                 want_parts(self.table[g], g, self.flags, &mut wanted);

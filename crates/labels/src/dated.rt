@@ -89,8 +89,8 @@ impl Dated {
         self.value
     }
 
-    // The point from which the label is true, or 0 if it is true at none: a date of truth is a number in any case. The casts here
-    // keep their numbers, and a conversion would add a failure that never comes.
+    // The point from which the label is true, or 0 if it is true at none, since a date is defined as a number. The casts keep
+    // theirs, and a conversion would add a failure that never comes.
     pub fn date_of_truth(self) -> usize
         ensures ever { pos 0 <ℤ self.value → pos result +ℤ self.value ≡ pos 257 }
         ensures never { self.value ≤ℤ pos 0 → result ≡ 0 }
@@ -103,7 +103,7 @@ impl Dated {
         }
     }
 
-    // The point from which the label is false, or 0 if it is false at none: a number in any case.
+    // The point from which the label is false, or 0 if it is false at none, since a date is defined as a number.
     #[tactic(auto, using(crate::proofs::Dates::date_same))]
     pub fn date_of_falsehood(self) -> usize
         ensures ever { self.value <ℤ pos 0 → pos result ≡ self.value +ℤ pos 257 }
@@ -113,7 +113,7 @@ impl Dated {
         self.not().date_of_truth()
     }
 
-    // Whether two labels are the same number. They are if they have the same readings.
+    // Whether two labels are the same number. They are if they have the same readings, which `==` does not promise.
     #[tactic(auto, using(crate::proofs::Dates::number_by_meaning))]
     pub fn equal(self, other: Dated) -> bool
         ensures alike { self.value ≡ other.value → result ≡ true }

@@ -24,7 +24,7 @@ use records::readable::Readable;
 use refusals::Refusal;
 use table::finished::Table;
 
-// One of the numbers from low to high.
+// Refuses a number that is not one of those from low to high.
 fn within(i: usize, low: usize, high: usize, refusal: Refusal) -> Result<(), Refusal>
     ensures { MatchResult result (λ _. (low ≤ i) × (i ≤ high)) (λ why. (why ≡ refusal) × ((i < low) ⊎ (high < i))) }
 {
@@ -36,7 +36,7 @@ fn within(i: usize, low: usize, high: usize, refusal: Refusal) -> Result<(), Ref
 }
 
 impl Book {
-    // A formula of the table that is not loose.
+    // Refuses a number that names no formula of the table, or a loose one.
     fn closed_formula(&self, formula: usize) -> Result<(), Refusal>
         ensures { MatchResult result (λ _. (formula < length (table_of self.now)) × (is_loose (table_of self.now) formula ≡ false))
             (λ why. ((why ≡ NoSuchName) × (length (table_of self.now) ≤ formula)) ⊎ ((why ≡ LooseFormula) × (formula < length (table_of self.now)) × (is_loose (table_of self.now) formula ≡ true))) }
@@ -48,7 +48,7 @@ impl Book {
         }
     }
 
-    // A rule of the table.
+    // The rule with a number, if the table has one.
     fn rule(&self, r: usize) -> Result<Rule, Refusal>
         ensures found { MatchResult result (λ rule. (r < length (rules_in self.now)) × (rule ≡ slice_index_or (rules_in self.now) r no_rule))
             (λ why. (why ≡ NoSuchName) × (length (rules_in self.now) ≤ r)) }

@@ -47,10 +47,9 @@ impl Book {
         requires { (f < 2 ^ 16) × ((1 ≤ i) × (i < 2 ^ 16)) }
         ensures { result ≡ held self.now f i }
     {
-        match self.cells.get(f * self.count + (i - 1)) {
-            Some(cell) => label_told(*cell),
-            None => Label::Unknown,
-        }
+        self.cells
+            .get(f * self.count + (i - 1))
+            .map_or(Label::Unknown, |cell| label_told(*cell))
     }
 
     fn raises_at(&self, rule: Rule, s: usize) -> bool

@@ -47,7 +47,6 @@ impl Fault for Refusal {
     }
 
     fn layer(self) -> Layer {
-        let _ = self;
         Layer::Monitor
     }
 

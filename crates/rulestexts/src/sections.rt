@@ -25,8 +25,9 @@ pub(crate) struct Section {
     pub(crate) used: usize,
 }
 
-// The two readers below count the lines, since a line is given its number and its place. They stay apart: one loop for both would take from its caller what a line is, how it joins and what the
-// promise says of it, which is more than each of them has.
+// The two readers below count the lines, since a line is given its number and its place. They stay apart: one loop for both
+// would take from its caller what a line is, how it joins and what the promise says of it, which is more than each of them
+// has.
 
 // The formulas that a text begins with.
 pub(crate) fn read_formulas(text: &[u8]) -> Result<Section, ReadFault>

@@ -68,8 +68,8 @@ pub struct Outcome<R: Growing> {
 }
 
 // Carries out any list of calls on a new monitor over a table and a record, writes their answers, and then labels the
-// record whole in any kind of label. Memory for fewer answers than calls is refused, and nothing is called. It is lent, since
-// there is no heap.
+// record whole in any kind of label. Memory for fewer answers than calls is refused, and nothing is called. It is lent, so
+// that no allocation can fail in the middle.
 pub fn run<K: LabelKind + Copy, R: Growing>(
     table: Table,
     log: R,

@@ -18,15 +18,14 @@ use records::change_record::ChangeRecord;
 use records::readable::BLANK;
 use records::table::TableRecord;
 use std::io;
-use table::finished::Table;
 
-fn stories(rt: &HostRuntime, table: Table) -> Result<(), Stop> {
-    let log = double_free();
-    let mut rows = [BLANK; 8];
-    println!(rt; "record=table")?;
-    story(rt, table, TableRecord::new(&mut rows), &log)?;
-    println!(rt; "record=changes")?;
-    story(rt, table, ChangeRecord::new(), &log)
+// A story that a refusal ends is told so far, and then the refusal.
+fn ended(rt: &HostRuntime, end: Result<(), Stop>) -> io::Result<()> {
+    match end {
+        Ok(()) => Ok(()),
+        Err(Stop::Refused(refusal)) => println!(rt; "refused={}", refusal.number()),
+        Err(Stop::Unwritten(error)) => Err(error),
+    }
 }
 
 fn main(rt: HostRuntime) -> io::Result<()> {
@@ -34,9 +33,10 @@ fn main(rt: HostRuntime) -> io::Result<()> {
         Ok(table) => table,
         Err(defect) => return println!(rt; "refused={}", defect.number()),
     };
-    match stories(&rt, table) {
-        Ok(()) => Ok(()),
-        Err(Stop::Refused(refusal)) => println!(rt; "refused={}", refusal.number()),
-        Err(Stop::Unwritten(error)) => Err(error),
-    }
+    let log = double_free();
+    let mut rows = [BLANK; 8];
+    println!(rt; "record=table")?;
+    ended(&rt, story(&rt, table, TableRecord::new(&mut rows), &log))?;
+    println!(rt; "record=changes")?;
+    ended(&rt, story(&rt, table, ChangeRecord::new(), &log))
 }

@@ -98,8 +98,8 @@ impl LabelKind for Strip {
 }
 
 impl Strip {
-    // The point from which the label is true, or 0 if it is true at none: that of the lowest set bit. A date of truth is a number
-    // in any case.
+    // The point from which the label is true, or 0 if it is true at none: that of the lowest set bit. 0, since a date is
+    // defined as a number.
     #[tactic(auto, using(crate::proofs::Bits::bit_zero, crate::proofs::Bits::lowest_within, crate::proofs::Bits::lowest_here, crate::proofs::Bits::lowest_below))]
     pub fn date_of_truth(self) -> u32
         ensures never { self.strong ≡ 0 → result ≡ 0 }

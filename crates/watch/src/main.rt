@@ -12,7 +12,7 @@ fn main(rt: HostRuntime) -> io::Result<()> {
     let mut input = Vec::new(rt.alloc());
     rt.stdin().take(ROOM).read_to_end(&mut input)?;
     let lines = watch(rt.alloc(), input.as_slice())?;
-    for line in lines.iter() {
+    for line in &lines {
         println!(rt; "{line}")?;
     }
     Ok(())
