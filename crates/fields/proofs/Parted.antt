@@ -1,5 +1,5 @@
 use denote.Bor.{Bor}
-use Rattle.std.proofs.Common.{◌≡◌, ℕ, ◌+◌, ◌-◌, ◌^◌, ◌<◌, ◌≤◌, List, [], ◌++◌, length, get_or, take, drop, decimal, sym, refl, ap, ◌∙◌, subst, arith, length-append, length-drop, take-append-drop, position, ◌==◌, Some, None}
+use Rattle.std.proofs.Common.{◌≡◌, ℕ, ◌+◌, ◌-◌, ◌^◌, ◌<◌, ◌≤◌, List, [], ◌++◌, length, get_or, take, drop, decimal, sym, refl, ap, ◌∙◌, subst, arith, length-append, length-drop, take-append-drop, position, ◌==◌, Some, None, Option, MatchOption}
 use Rattle.std.proofs.lemmas.Str.Parse.{digit_at}
 use Rattle.std.proofs.lemmas.Fmt.{decimal_injective}
 use Rattle.std.proofs.ByRecursion.{All-from_get_or}
@@ -50,6 +50,12 @@ module _ (line : List ℕ) (at : ℕ) (h : at ≤ length line) where
         solid = no_place 32 (drop at line) e;
         stops = subst Stop (sym d) tt;
       }
+
+  -- the place of the first space tells which of the two
+  pub part_at : (o : Option ℕ) (t : List ℕ) {A : Type 0} {B : ℕ → Type 0} → o ≡ position (λ b. b == 32) (take (length line - at) (drop at line)) → MatchOption o A B
+      → (A → t ≡ take (length line - at) (drop at line)) → ((n : ℕ) → B n → t ≡ take n (take (length line - at) (drop at line))) → Part line at t at
+  part_at (Some n) t e x f g = subst (λ z. Part line at z at) (sym (g n x ∙ ap (take n) (take_rest line at))) (part_to n (sym (e ∙ ap (position (λ b. b == 32)) (take_rest line at))))
+  part_at None t e x f g = subst (λ z. Part line at z at) (sym (f x ∙ take_rest line at)) (part_rest (sym (e ∙ ap (position (λ b. b == 32)) (take_rest line at))))
 
 -- a field after a key, and what follows it
 pub took_part : (line before key t : List ℕ) (at place : ℕ) → before ≡ key ++ drop at line → Part line at t place → Took before key t (drop (place + length t) line)

@@ -2,8 +2,7 @@ ghost use Rattle.std.specs.Prelude.{◌≤◌, length};
 ghost use Rattle.fields.specs.Fields.{Part, Stands};
 
 use crate::places::place_of;
-
-const SPACE: u8 = b' ';
+use keys::SPACE;
 
 // What stands in a line from a place up to the next space or the line's end: a word, or the text of a number, with its
 // place; or nothing.
@@ -20,10 +19,7 @@ fn text_at(line: &[u8], from: usize) -> &[u8]
     ensures { Part line.now from result.now from }
 {
     let rest = &line[from..];
-    match place_of(rest, SPACE) {
-        Some(n) => &rest[..n],
-        None => rest,
-    }
+    place_of(rest, SPACE).map_or(rest, |n| &rest[..n])
 }
 
 pub(crate) fn field_at<'a>(line: &'a [u8], from: usize) -> Field<'a>

@@ -4,49 +4,12 @@
 ghost use Rattle.std.specs.Prelude.{◌≡◌, ℕ, List, ◌++◌, MatchOption, ◌≢◌};
 ghost use Rattle.keys.specs.Keys.{count_text, trace_text, formula_text, rule_text};
 
-const SPACE: u8 = b' ';
+use words::letters::{A, B, C, E, F, G, H, I, K, L, M, N, O, P, R, S, T, U, W, X};
+
+// Stands before each key but the first of a line, and so after each field but the last.
+pub const SPACE: u8 = b' ';
 
 const EQUALS: u8 = b'=';
-
-const A: u8 = b'a';
-
-const B: u8 = b'b';
-
-const C: u8 = b'c';
-
-const E: u8 = b'e';
-
-const F: u8 = b'f';
-
-const G: u8 = b'g';
-
-const H: u8 = b'h';
-
-const I: u8 = b'i';
-
-const K: u8 = b'k';
-
-const L: u8 = b'l';
-
-const M: u8 = b'm';
-
-const N: u8 = b'n';
-
-const O: u8 = b'o';
-
-const P: u8 = b'p';
-
-const R: u8 = b'r';
-
-const S: u8 = b's';
-
-const T: u8 = b't';
-
-const U: u8 = b'u';
-
-const W: u8 = b'w';
-
-const X: u8 = b'x';
 
 // A key of a line.
 pub trait LineKey: Sized {

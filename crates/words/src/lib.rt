@@ -1,47 +1,13 @@
 // The words of the operators, recognised byte by byte.
 #![tactic(auto)]
 
+pub mod letters;
+
 ghost use Rattle.std.specs.Prelude.{◌≡◌, MatchOption, ◌≢◌};
 ghost use Rattle.words.specs.Words.{word as word_of};
 ghost use Rattle.words.specs.declared.Operator.{Operator};
 
-const A: u8 = b'a';
-
-const B: u8 = b'b';
-
-const C: u8 = b'c';
-
-const D: u8 = b'd';
-
-const E: u8 = b'e';
-
-const G: u8 = b'g';
-
-const I: u8 = b'i';
-
-const K: u8 = b'k';
-
-const L: u8 = b'l';
-
-const M: u8 = b'm';
-
-const N: u8 = b'n';
-
-const O: u8 = b'o';
-
-const P: u8 = b'p';
-
-const R: u8 = b'r';
-
-const S: u8 = b's';
-
-const T: u8 = b't';
-
-const U: u8 = b'u';
-
-const V: u8 = b'v';
-
-const X: u8 = b'x';
+use crate::letters::{A, B, C, D, E, G, I, K, L, M, N, O, P, R, S, T, U, V, X};
 
 // The operators of formulas; a nominal's word is `mark`, and that of a state-referencing proposition `link`.
 #[derive(Drop, Clone, Copy, PartialEq, Eq, Debug)]
