@@ -21,7 +21,7 @@ pub fn first_line(text: &[u8], place: usize) -> Result<&[u8], LineFault>
 }
 
 // What a line shows, and how many bytes the line takes.
-#[derive(Drop, Clone, Copy)]
+#[derive(Drop, Clone, Copy, PartialEq, Eq, Debug)]
 pub struct Taken<T> {
     pub value: T,
     pub used: usize,

@@ -8,8 +8,9 @@ use crate::parts::{Field, field_at};
 use keys::LineKey;
 use words::Operator;
 
-// The fields of a line that are not read yet: those from a place on.
-#[derive(Drop, Clone, Copy)]
+// The fields of a line that are not read yet: those from a place on. A place beside the line, and not the rest alone: a
+// `Field` tells its place in the line, which is a form of the project.
+#[derive(Drop, Clone, Copy, PartialEq, Eq, Debug)]
 pub struct Fields<'a> {
     line: &'a [u8],
     at: usize,
@@ -53,7 +54,9 @@ impl<'a> Fields<'a> {
         Some(value)
     }
 
-    // Reads the operator whose word stands under a key that comes next.
+    // Reads the operator whose word stands under a key that comes next. Beside `number`, and not one with it: they share the
+    // step past the field and no more, and a shared function would take the field's case, the reader and the promise of each
+    // from its caller.
     pub fn operator<K: LineKey>(&mut self, key: K) -> Option<Operator>
         ensures read { MatchOption result (NoOperator (rest_of self.old) (K.written key)) (λ o. Took (rest_of self.old) (K.written key) (word_of o) (rest_of self.new)) }
         ensures unread { IfNone result (rest_of self.new ≡ rest_of self.old) }
