@@ -11,10 +11,10 @@ use logic::types::Rule;
 
 // The numbers of a rule line, as they stand.
 #[derive(Drop, Clone, Copy)]
-pub(crate) struct Numbers {
-    pub(crate) number: u64,
-    pub(crate) condition: u64,
-    pub(crate) content: u64,
+struct Numbers {
+    number: u64,
+    condition: u64,
+    content: u64,
 }
 
 fn numbers_of(line: &[u8]) -> Option<Numbers>
