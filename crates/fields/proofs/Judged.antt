@@ -1,11 +1,10 @@
-use Rattle.std.proofs.Common.{◌≡◌, ℕ, ◌+◌, ◌-◌, ◌≤◌, List, ◌∷◌, length, take, drop, sym, ap, ◌∙◌, subst, MatchResult, Option, Some, None, Result, Ok, Err, arith, length-append, length-drop}
-use Rattle.std.proofs.lemmas.List.{take_rest, drop-drop}
+use Rattle.std.proofs.Common.{◌≡◌, ℕ, ◌+◌, ◌≤◌, List, ◌∷◌, length, drop, sym, ap, ◌∙◌, subst, MatchResult, Option, Some, None, Result, Ok, Err, arith, length-append, length-drop}
 use Rattle.faults.specs.declared.line.LineFault.{LineFault}
 use Rattle.faults.specs.declared.line.LineFault.TheVariants as fault
 use Rattle.fields.specs.Lines.{FirstLine}
 use Rattle.fields.specs.declared.lines.Taken.{Taken}
 use Rattle.fields.specs.Reads.{Fails, ReadsLine}
-use Rattle.fields.specs.Kinds.{Kind, Shows, Fits, Takes, Refuses, TakesLine, ShowsNone}
+use Rattle.fields.specs.Kinds.{Kind, Shows, Takes, Refuses, TakesLine, ShowsNone}
 use Rattle.fields.proofs.Ends.{one_line}
 
 -- a kind whose lines show one value at most
@@ -102,16 +101,3 @@ taken_of v u = record { value = v; used = u }
 pub same_taken : {T : Type 0} (a b : Taken T) → a.value ≡ b.value → a.used ≡ b.used → a ≡ b
 unfolding taken_of
 same_taken a b e f = let p : taken_of a.value a.used ≡ taken_of b.value b.used = cc in p
-
--- the rest of a text, as `&text[at..]` has it
-abbrev pub rest_from : (text : List ℕ) (at : ℕ) → List ℕ
-rest_from text at = take (length text - at) (drop at text)
-
-module _ (K : Kind) (text : List ℕ) (at : ℕ) where
-  pub taken_at : (v : K.Value) (used : ℕ) → at ≤ length text → Takes K (rest_from text at) v used → Fits K (drop at text) v (drop (at + used) text) × (at + used ≤ length text)
-  taken_at v used h t =
-      let w : Takes K (drop at text) v used = subst (λ z. Takes K z v used) (take_rest text at) t in
-      (subst (λ z. Fits K (drop at text) v z) (drop-drop used at text) w.fits, omega (arith, w.within, length-drop at text))
-
-  pub refused_at : (place : ℕ) (e : LineFault) → Refuses K (rest_from text at) place e → Refuses K (drop at text) place e
-  refused_at place e r = subst (λ z. Refuses K z place e) (take_rest text at) r

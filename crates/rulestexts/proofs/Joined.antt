@@ -1,19 +1,34 @@
-use Rattle.std.proofs.Common.{ℕ, ◌+◌, List, drop, subst, inr}
-use Rattle.std.proofs.lemmas.List.{take_rest}
-use Rattle.table.specs.Tables.{formulas_of}
+use Rattle.std.proofs.Common.{◌≡◌, ℕ, ◌+◌, ◌-◌, List, length, sym, ◌∙◌, subst, inr, arith}
+use Rattle.table.specs.declared.draft.Draft.{Draft}
+use Rattle.table.specs.Tables.{formulas_of, rules_of}
 use Rattle.faults.specs.declared.read.ReadFault.{ReadFault}
-use Rattle.fields.proofs.Judged.{rest_from}
 use Rattle.rulelines.specs.declared.entries.Entry.{Entry}
 use Rattle.rulestexts.specs.declared.sections.Section.{Section}
-use Rattle.rulestexts.specs.Blocks.{Stops}
+use Rattle.rulestexts.specs.Blocks.{Begins, Stops}
 use Rattle.rulestexts.specs.Sections.{rule_block}
-use Rattle.rulestexts.specs.Texts.{meanings, Refused, FormulasRead}
+use Rattle.rulestexts.specs.Texts.{meanings, Whole, Refused, FormulasRead, RulesRead}
+use Rattle.rulestexts.proofs.Endings.{ends_twice, ends_drop}
 
 module _ (text : List ℕ) (a : Section) (vs : List Entry) (h : FormulasRead text a vs) where
-  pub rules_stop : (e : ReadFault) → Stops (rule_block (formulas_of a.draft)) (rest_from text a.used) (a.count + 2) e → Refused text e
+  pub rules_stop : (e : ReadFault) → Stops (rule_block (formulas_of a.draft)) a.rest.now (a.count + 2) e → Refused text e
   rules_stop e s =
-      let t : Stops (rule_block (formulas_of a.draft)) (drop a.used text) (a.count + 2) e =
-      subst (λ z. Stops (rule_block (formulas_of a.draft)) z (a.count + 2) e) (take_rest text a.used) s in
-      let u : Stops (rule_block (meanings vs)) (drop a.used text) (a.count + 2) e =
-      subst (λ z. Stops (rule_block z) (drop a.used text) (a.count + 2) e) h.means t in
-      inr (record { entries = vs; middle = drop a.used text; formula_lines = h.lines; stops = subst (λ z. Stops (rule_block (meanings vs)) (drop a.used text) (z + 2) e) h.count u })
+      let t : Stops (rule_block (meanings vs)) a.rest.now (a.count + 2) e =
+      subst (λ z. Stops (rule_block z) a.rest.now (a.count + 2) e) h.means s in
+      inr (record { entries = vs; middle = a.rest.now; formula_lines = h.lines; stops = subst (λ z. Stops (rule_block (meanings vs)) a.rest.now (z + 2) e) h.count t })
+
+  -- both blocks are whole, and what follows the rules ends the text
+  pub rules_whole : (b : Section) (d : Draft) → RulesRead a.rest.now (formulas_of a.draft) b → d ≡ b.draft → Whole text (formulas_of d) (rules_of d) (length text - length b.rest.now)
+  rules_whole b d r e =
+      let m : formulas_of b.draft ≡ meanings vs = r.same ∙ h.means in
+      let l : Begins (rule_block (formulas_of b.draft)) (length (rules_of b.draft)) (rules_of b.draft) a.rest.now b.rest.now =
+      subst (λ z. Begins (rule_block z) (length (rules_of b.draft)) (rules_of b.draft) a.rest.now b.rest.now) (sym r.same) r.lines in
+      let w : Whole text (formulas_of b.draft) (rules_of b.draft) (length text - length b.rest.now) = record {
+        entries = vs;
+        middle = a.rest.now;
+        formula_lines = h.lines;
+        means = m;
+        rule_lines = subst (Begins (rule_block (formulas_of b.draft)) (length (rules_of b.draft)) (rules_of b.draft) a.rest.now)
+            (sym (ends_drop text b.rest.now (ends_twice text a.rest.now b.rest.now h.ends r.ends))) l;
+        within = omega arith;
+      } in
+      subst (λ (z : Draft). Whole text (formulas_of z) (rules_of z) (length text - length b.rest.now)) (sym e) w

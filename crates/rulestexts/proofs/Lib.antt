@@ -1,3 +1,4 @@
+pub mod Endings
 pub mod Ranges
 pub mod Progress
 pub mod Joined

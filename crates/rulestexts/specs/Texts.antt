@@ -57,20 +57,25 @@ abbrev pub OneReading : Type 0
 OneReading = (text : List ℕ) (r s : Result (Taken Table) ReadFault) → Reads text r → Reads text s → Same r s
 
 -- ── what the reader's parts answer ──
+
+-- the text ends in these bytes
+abbrev pub EndsIn : (text rest : List ℕ) → Type 0
+EndsIn text rest = (front : List ℕ) × (text ≡ front ++ rest)
+
 pub record FormulasRead (text : List ℕ) (a : Section) (entries : List Entry) : Type 0 where
-  pub lines : Begins formula_block (length entries) entries text (drop a.used text)
+  pub lines : Begins formula_block (length entries) entries text a.rest.now
   pub count : a.count ≡ length entries
   pub means : formulas_of a.draft ≡ meanings entries
   pub ruleless : rules_of a.draft ≡ []
-  pub within : a.used ≤ length text
+  pub ends : EndsIn text a.rest.now
   pub few : a.count ≤ 64
   pub some : 1 ≤ a.count
 
 pub record RulesRead (text : List ℕ) (formulas : List Formula) (a : Section) : Type 0 where
-  pub lines : Begins (rule_block formulas) (length (rules_of a.draft)) (rules_of a.draft) text (drop a.used text)
+  pub lines : Begins (rule_block formulas) (length (rules_of a.draft)) (rules_of a.draft) text a.rest.now
   pub same : formulas_of a.draft ≡ formulas
   pub count : a.count ≡ length (rules_of a.draft)
-  pub within : a.used ≤ length text
+  pub ends : EndsIn text a.rest.now
   pub some : 1 ≤ a.count
 
 -- a formula in range joins the others, or is refused since a part is not below it

@@ -13,13 +13,12 @@ fn read_rest(text: &[u8], formulas: Section) -> Result<Taken<Table>, ReadFault>
     requires { (vs : List Entry) × FormulasRead text.now formulas vs }
     ensures { Reads text.now result }
 {
-    let at = formulas.used;
-    let rules = read_rules(&text[at..], formulas.count + 2, formulas.draft)?;
+    let rules = read_rules(formulas.rest, formulas.count + 2, formulas.draft)?;
     // A refusal never comes: each block that was read has a line at least.
     let table = rules.draft.finish().map_err(|_| LineFault::Range(1))?;
     Ok(Taken {
         value: table,
-        used: at + rules.used,
+        used: text.len() - rules.rest.len(),
     })
 }
 
