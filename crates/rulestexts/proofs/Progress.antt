@@ -100,12 +100,12 @@ pub record Rules (text : List ℕ) (formulas : List Formula) (n k : ℕ) (rest :
   pub few : n ≤ 16
   pub some : 1 ≤ n
 
-pub rules_begin : (text : List ℕ) (n used : ℕ) (d : Draft) → Takes count_of_rules text n used → rules_of d ≡ [] → Rules text (formulas_of d) n 0 (rest_from text used) d
-rules_begin text n used d t none = record {
-  lines = subst (λ z. Begins (rule_block (formulas_of d)) n z text (rest_from text used)) (sym none)
+pub rules_begin : (text : List ℕ) (formulas : List Formula) (n used : ℕ) (d : Draft) → Takes count_of_rules text n used → formulas_of d ≡ formulas → rules_of d ≡ [] → Rules text formulas n 0 (rest_from text used) d
+rules_begin text formulas n used d t same none = record {
+  lines = subst (λ z. Begins (rule_block formulas) n z text (rest_from text used)) (sym none)
       (record { middle = rest_from text used; counts = subst (Fits count_of_rules text n) (sym (take_rest text used)) t.fits; run = refl });
   count = ap length none;
-  same = refl;
+  same = same;
   ends = ends_from text used;
   few = t.fits.ranged.1;
   some = t.fits.ranged.0;

@@ -30,6 +30,7 @@ pub(crate) struct Section<'a> {
 // has.
 
 // The formulas that a text begins with.
+#[tactic(auto, using(crate::proofs::Progress::formulas_begin))]
 pub(crate) fn read_formulas(text: &[u8]) -> Result<Section<'_>, ReadFault>
     ensures { MatchResult result (λ a. (vs : List Entry) × FormulasRead text.now a vs) (λ e. Refused text.now e) }
 {

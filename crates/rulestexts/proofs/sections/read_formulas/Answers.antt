@@ -1,8 +1,8 @@
-use Rattle.std.proofs.Common.{◌+◌, inl, arith, rules}
+use Rattle.std.proofs.Common.{◌+◌, inl, arith}
 use Rattle.std.proofs.lemmas.Result.{err_from_is_err_and}
 use Rattle.rulestexts.specs.Blocks.{at_count}
 use Rattle.faults.specs.declared.read.ReadFault.TheVariants.{Line}
-use Rattle.rulestexts.proofs.Progress.{formula_range, formulas_count, formulas_begin, formulas_more, formulas_stop, formula_dangles}
+use Rattle.rulestexts.proofs.Progress.{formula_range, formulas_count, formulas_more, formulas_stop, formula_dangles}
 use Rattle.rulestexts.proofs.sections.read_formulas.Goals as goal
 
 pub returns-in_err-head : goal.returns-in_err-head
@@ -29,6 +29,3 @@ pub loop-k-preserved : goal.loop-k-preserved
 loop-k-preserved c =
     formulas_more c.args.text.now c.in_ok-head.head.value c.loop-k.k c.loop-k.rest.now c.loop-k.draft c.loop-k.invariant
     c.in_ok-line.line.value c.in_ok-line.line.used (c.loop-k.k + 2) _ c.in_ok-line.ensures c.in_ok-join_formula.ensures
-
-pub loop-k-init : goal.loop-k-init
-loop-k-init c = formulas_begin c.args.text.now c.in_ok-head.head.value c.in_ok-head.head.used _ c.in_ok-head.ensures (search rules) (search rules)

@@ -1,4 +1,4 @@
-use Rattle.std.proofs.Common.{◌+◌, arith}
+use Rattle.std.proofs.Common.{◌+◌, refl, arith, rules}
 use Rattle.std.proofs.lemmas.Result.{err_from_is_err_and}
 use Rattle.table.specs.Tables.{formulas_of}
 use Rattle.faults.specs.declared.read.ReadFault.TheVariants.{Line}
@@ -21,4 +21,4 @@ loop-k-preserved c =
     c.in_ok-line.line.value c.in_ok-line.line.used (c.args.place + 1 + c.loop-k.k) _ c.in_ok-line.ensures c.in_ok-join_rule.ensures
 
 pub loop-k-init : goal.loop-k-init
-loop-k-init c = rules_begin c.args.text.now c.in_ok-head.head.value c.in_ok-head.head.used c.args.formulas c.in_ok-head.ensures c.requires.ruleless
+loop-k-init c = rules_begin c.args.text.now (formulas_of c.args.formulas) c.in_ok-head.head.value c.in_ok-head.head.used c.args.formulas (search rules) refl c.requires.ruleless
