@@ -1,5 +1,5 @@
 -- A trace line that is taken or refused. Assumes nothing.
-use Rattle.std.proofs.Common.{◌≡◌, ℕ, ◌+◌, ◌-◌, ◌<◌, ◌≤◌, cond, List, [], ◌∷◌, ◌++◌, map, length, take, drop, Some, None, Ok, Err, Option, sym, refl, ap, ◌∙◌, subst, inr, arith, length-append, length-drop}
+use Rattle.std.proofs.Common.{◌≡◌, ℕ, ◌+◌, ◌-◌, ◌<◌, ◌≤◌, cond, List, [], ◌∷◌, ◌++◌, map, length, take, drop, Some, None, Ok, Err, Option, Result, MatchResult, sym, refl, ap, ◌∙◌, subst, inr, arith, length-append, length-drop}
 use Rattle.std.proofs.lemmas.List.{take_all}
 use Rattle.std.proofs.lemmas.Bool.{eq-eqb}
 use Rattle.logic.specs.declared.types.State.{State}
@@ -39,14 +39,21 @@ pub not_taken : {A : Type 0} (own count : ℕ) (G : Ground) (xs : List State) (t
 not_taken own count G xs text x used v why n o e takes r number =
     inr (x, drop used text, why, (subst (λ c. Takes (trace_kind c) text (c + 1, x) used) e takes).fits, sym (own_refusal own G xs (Append x) o) ∙ outcome_err (refused_by own G xs (Append x)) v why r, number)
 
+-- a refusal that was made a line of output
+pub refused_line : {A : Type 0} (r : Result A Refusal) (m : Result A Line) (line : Line) (place : ℕ) {Kept : A → Type 0} {Made : Refusal → Type 0}
+    → MatchResult r Kept Made → m ≡ Err line → ((x : A) → Kept x → m ≡ Ok x) → ((e : Refusal) → Made e → line ≡ Refused (told e).number place)
+    → (why : Refusal) × (r ≡ Err why) × (line ≡ Refused (told why).number place)
+refused_line (Ok x) m line place made is keeps reads = let e : m ≡ Ok x = keeps x made in let z : ◌≡◌ {A = ℕ} 0 1 = cc in absurd (omega arith)
+refused_line (Err why) m line place made is keeps reads = (why, refl, reads why made)
+
 outcome_ok : {A : Type 0} (o : Option Refusal) (v w : A) → Ok w ≡ outcome o v → o ≡ None
 outcome_ok (Some r) v w e = let z : ◌≡◌ {A = ℕ} 0 1 = cc in absurd (omega arith)
 outcome_ok None v w e = refl
 
-pub is_taken : {A : Type 0} (own count : ℕ) (G : Ground) (xs ys : List State) (text : List ℕ) (x : State) (used : ℕ) (v w : A)
+pub is_taken : {A : Type 0} (own count : ℕ) (G : Ground) (xs ys : List State) (text : List ℕ) (x : State) (used place : ℕ) (v w : A)
     → own ≡ length xs → count ≡ length xs → Takes (trace_kind count) text (count + 1, x) used → Ok w ≡ outcome (refused_by own G xs (Append x)) v → ys ≡ xs ++ x ∷ []
-    → Steps G xs text (Ok used) ys
-is_taken own count G xs ys text x used v w o e takes r grown =
+    → Steps G xs text place (Ok used) ys
+is_taken own count G xs ys text x used place v w o e takes r grown =
     (x, subst (λ c. Takes (trace_kind c) text (c + 1, x) used) e takes, sym (own_refusal own G xs (Append x) o) ∙ outcome_ok (refused_by own G xs (Append x)) v w r, grown)
 
 pub longer : (xs ys : List State) (x : State) (n : ℕ) → n ≡ length xs → ys ≡ xs ++ x ∷ [] → length ys ≡ n + 1
@@ -60,16 +67,16 @@ pub finished : (G H : Ground) (start rest : List ℕ) (xs : List State) (before 
 finished G H start rest xs before lines place last h reaches none_left e all =
     record { states = xs; rest = rest; before = before; last = end_line_lem G xs; reaches = reaches; closes = (none_left, refl); all = all ∙ ap (λ l. before ++ l ∷ []) (e ∙ ap (λ (g : Ground). end_line_lem g xs) h) }
 
-pub broken : (G H : Ground) (start rest : List ℕ) (xs : List State) (before lines : List Line) (place number line : ℕ)
-    → H ≡ G → Reaches G start xs rest before → 0 < length rest → NotTaken H xs rest number → line ≡ place + length xs → lines ≡ before ++ Refused number line ∷ [] → Traced G start place lines
-broken G H start rest xs before lines place number line h reaches some why e all =
-    record { states = xs; rest = rest; before = before; last = Refused number line; reaches = reaches; closes = (some, e, subst (λ (g : Ground). NotTaken g xs rest number) h why); all = all }
+pub broken : (G H : Ground) (start rest : List ℕ) (xs ys : List State) (before lines : List Line) (place number : ℕ) (line : Line)
+    → H ≡ G → Reaches G start xs rest before → 0 < length rest → Steps H xs rest number (Err line) ys → number ≡ place + length xs → lines ≡ before ++ line ∷ [] → Traced G start place lines
+broken G H start rest xs ys before lines place number line h reaches some (n, why, is, kept) e all =
+    record { states = xs; rest = rest; before = before; last = Refused n number; reaches = reaches; closes = (some, e, subst (λ (g : Ground). NotTaken g xs rest n) h why); all = all ∙ ap (λ l. before ++ l ∷ []) is }
 
 -- one state more
-pub stepped : (G H J : Ground) (start text rest : List ℕ) (xs ys : List State) (lines new : List Line) (used point : ℕ)
-    → H ≡ G → J ≡ G → Reaches G start xs text lines → Steps H xs text (Ok used) ys → point ≡ length ys
+pub stepped : (G H J : Ground) (start text rest : List ℕ) (xs ys : List State) (lines new : List Line) (used place point : ℕ)
+    → H ≡ G → J ≡ G → Reaches G start xs text lines → Steps H xs text place (Ok used) ys → point ≡ length ys
     → new ≡ lines ++ map (Told point) (notices (J.labelled ys) J.rules point) → rest ≡ drop used text → Reaches G start ys rest new
-stepped G H J start text rest xs ys lines new used point h j reaches (x, takes, fit, grown) p told left =
+stepped G H J start text rest xs ys lines new used place point h j reaches (x, takes, fit, grown) p told left =
     let next : Reaches G start (xs ++ x ∷ []) rest (lines ++ point_lines G (xs ++ x ∷ [])) =
     more reaches (subst (λ r. Fits (trace_kind (length xs)) text (length xs + 1, x) r) (sym left) takes.fits) (subst (λ (g : Ground). refusal_of g xs (Append x) ≡ None) h fit) in
     let same : new ≡ lines ++ point_lines G ys =

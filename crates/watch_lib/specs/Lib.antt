@@ -2,4 +2,3 @@ pub mod Lines
 pub mod Sums
 pub mod Watched
 pub mod Laws
-pub mod Stops

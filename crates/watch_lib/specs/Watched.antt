@@ -18,9 +18,7 @@ use Rattle.answers.specs.Answers.{Ground, refusal_of}
 use Rattle.monitor.specs.Book.{ground}
 use Rattle.watch_lib.specs.declared.lines.Line.{Line}
 use Rattle.watch_lib.specs.declared.lines.Line.TheVariants.{Told, Refused, End}
-use Rattle.watch_lib.specs.Stops.{of_stop}
 use Rattle.watch_lib.specs.Sums.{summed}
-use Rattle.watch_lib.specs.declared.stops.Stop.{Stop}
 
 -- the notices of the last of the states xs, a line each
 abbrev pub point_lines : Ground → List State → List Line
@@ -70,8 +68,8 @@ pub data Watched (input : List ℕ) (lines : List Line) : Type 0 where
 
 -- ── what the parts of the program do ──
 
--- a line is taken, with the state in it and its count of bytes, or not, with the number of what is told
-abbrev pub Steps : Ground → List State → (text : List ℕ) → Result ℕ Stop → List State → Type 0
-Steps G xs text (Ok used) ys =
+-- a line, which has the number `place`, is taken, with the state in it and its count of bytes, or not, with the line of output that tells so
+abbrev pub Steps : Ground → List State → (text : List ℕ) → (place : ℕ) → Result ℕ Line → List State → Type 0
+Steps G xs text place (Ok used) ys =
     (x : State) × Takes (trace_kind (length xs)) text (length xs + 1, x) used × (refusal_of G xs (Append x) ≡ None) × (ys ≡ xs ++ x ∷ [])
-Steps G xs text (Err stop) ys = NotTaken G xs text (of_stop stop).number × (ys ≡ xs)
+Steps G xs text place (Err line) ys = (n : ℕ) × NotTaken G xs text n × (line ≡ Refused n place) × (ys ≡ xs)

@@ -5,7 +5,6 @@ mod ends;
 pub mod lines;
 mod points;
 mod steps;
-mod stops;
 pub mod watch;
 mod watcher;
 pub mod written;

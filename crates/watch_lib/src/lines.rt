@@ -5,7 +5,7 @@ use expectations::types::{Notice, Tally};
 use faults::fault::Fault;
 
 // One line of output.
-#[derive(Drop, Clone, Copy)]
+#[derive(Drop, Clone, Copy, PartialEq, Eq, Debug)]
 pub enum Line {
     // A notice of a truncation point.
     Told { point: usize, notice: Notice },

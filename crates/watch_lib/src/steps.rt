@@ -4,7 +4,6 @@ ghost use Rattle.monitor.specs.Book.{ground_of};
 ghost use Rattle.watch_lib.specs.Watched.{Steps, Traced};
 
 use crate::lines::Line;
-use crate::stops::Stop;
 use crate::watcher::Watcher;
 use records::growing::Growing;
 use records::readable::Readable;
@@ -12,15 +11,19 @@ use std::alloc::{AllocError, Global};
 use traces::states::read_state;
 
 impl<R: Growing> Watcher<R> {
-    // Appends the state of the text's first line, and answers the bytes of the line, or why it is not taken.
-    fn take_line(&mut self, text: &[u8]) -> Result<usize, Stop>
-        ensures steps { Steps (ground_of self.old.monitor.book (R.Growing.room self.old.monitor.log)) (R.Readable.states self.old.monitor.log) text.now result (R.Readable.states self.new.monitor.log) }
+    // Appends the state of the text's first line, and answers the bytes of the line, or the line of output that tells why it
+    // is not taken; `place` is the line's, for a refusal.
+    fn take_line(&mut self, text: &[u8], place: usize) -> Result<usize, Line>
+        ensures steps { Steps (ground_of self.old.monitor.book (R.Growing.room self.old.monitor.log)) (R.Readable.states self.old.monitor.log) text.now place result (R.Readable.states self.new.monitor.log) }
         ensures bytes { IfOk result (λ used. (1 ≤ used) × (used ≤ length text.now) × (length (R.Readable.states self.new.monitor.log) ≡ length (R.Readable.states self.old.monitor.log) + 1)) }
         ensures table { self.new.monitor.book.table ≡ self.old.monitor.book.table }
         ensures room { R.Growing.room self.new.monitor.log ≡ R.Growing.room self.old.monitor.log }
     {
-        let line = read_state(text, self.monitor.count())?;
-        self.monitor.append(line.value)?;
+        let count = self.monitor.count();
+        let line = read_state(text, count).map_err(|fault| Line::refused(fault, place))?;
+        self.monitor
+            .append(line.value)
+            .map_err(|refusal| Line::refused(refusal, place))?;
         Ok(line.used)
     }
 
@@ -39,13 +42,14 @@ impl<R: Growing> Watcher<R> {
         let mut lines = Vec::new(heap);
         let mut rest = text;
         while !rest.is_empty() {
-            match self.take_line(rest) {
+            let at = place + self.monitor.count();
+            match self.take_line(rest, at) {
                 Ok(used) => {
                     rest = &rest[used..];
                     self.tell_point(self.monitor.count(), &mut lines)?;
                 }
-                Err(stop) => {
-                    lines.push(Line::refused(stop, place + self.monitor.count()))?;
+                Err(refused) => {
+                    lines.push(refused)?;
                     return Ok(lines);
                 }
             }

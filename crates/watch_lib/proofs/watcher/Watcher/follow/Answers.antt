@@ -1,4 +1,4 @@
-use Rattle.std.proofs.Common.{◌≡◌, ℕ, List, length, vec_items, refl, ap, ◌∙◌, ap₂, arith, length-drop}
+use Rattle.std.proofs.Common.{◌≡◌, ℕ, ◌+◌, List, length, vec_items, refl, ap, ◌∙◌, ap₂, arith, length-drop}
 use Rattle.logic.specs.declared.types.State.{State}
 use Rattle.table.specs.declared.finished.Table.{Table}
 use Rattle.table.specs.Tables.{formulas_of, rules_of}
@@ -42,6 +42,6 @@ loop-rest-preserved g c =
       table,
       room,
       omega (arith, r.bytes.1, r.bytes.2, r.bytes.0, ap length left, length-drop used rest, inv.2),
-      stepped (on g start) (on g m) (on g new) text rest _ (over g m) (over g new) (vec_items c.loop-rest.lines) (vec_items c.tell_point.new.lines) used _
-          (same-ground g m start inv.0 inv.1) (same-ground g new start table room) inv.3 r.steps c.count.ensures c.in_ok-tell_point-in-Ok.ensures left,
+      stepped (on g start) (on g m) (on g new) text rest _ (over g m) (over g new) (vec_items c.loop-rest.lines) (vec_items c.tell_point.new.lines) used (c.args.place + c.count.result) _
+          (same-ground g m start inv.0 inv.1) (same-ground g new start table room) inv.3 r.steps c.count-in-Ok.ensures c.in_ok-tell_point-in-Ok.ensures left,
     )
