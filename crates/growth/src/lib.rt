@@ -9,7 +9,8 @@ use expectations::types::Label;
 use labels::LabelKind;
 use labels::dated::Dated;
 
-// The label that a dated number stands for. The casts keep their numbers, and a conversion would add a failure that never comes.
+// The label that a dated number stands for. Not `From`: both types are of other crates, and neither of them knows the other. The
+// casts keep their numbers, and a conversion would add a failure that never comes.
 pub fn label_told(x: Dated) -> Label
     ensures { result ≡ label_of_number x.value }
 {

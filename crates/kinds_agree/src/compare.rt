@@ -14,6 +14,9 @@ use table::finished::Table;
 // The last truncation point that both kinds tell of.
 const POINTS: usize = 64;
 
+// The cells for labels, and as many to work in: 22 formulas at 3 states take 66, and the others stay unknown.
+const CELLS: usize = 96;
+
 // Whether two labels have the same readings at a point.
 fn same_at<A: LabelKind + Copy, B: LabelKind + Copy>(a: A, b: B, point: usize) -> bool
     ensures told { 0 < point → point ≤ A.LabelKind.reach → point ≤ B.LabelKind.reach → result ≡ true → (e : Bool) → A.LabelKind.reads a e point ≡ B.LabelKind.reads b e point }
@@ -40,12 +43,13 @@ fn same_labels<A: LabelKind + Copy, B: LabelKind + Copy>(first: &[A], second: &[
     first.len() == second.len() && first.iter().zip(second).all(|(a, b)| same_readings(*a, *b))
 }
 
-// Labels the log in both kinds. Cells without a label are unknown in both.
+// Labels the log in both kinds. Cells without a label are unknown in both. Arrays, and no `Vec`: an allocation could fail, and
+// this answers without failure.
 pub fn kinds_agree(table: &Table, log: &[State]) -> bool {
-    let mut dated = [Dated::unknown(); 96];
-    let mut dated_work = [Dated::unknown(); 96];
-    let mut strips = [Strip::unknown(); 96];
-    let mut strip_work = [Strip::unknown(); 96];
+    let mut dated = [Dated::unknown(); CELLS];
+    let mut dated_work = [Dated::unknown(); CELLS];
+    let mut strips = [Strip::unknown(); CELLS];
+    let mut strip_work = [Strip::unknown(); CELLS];
     let record = Rows::new(log);
     let in_dates = label_whole(table, &record, &mut dated, &mut dated_work);
     let in_strips = label_whole(table, &record, &mut strips, &mut strip_work);

@@ -5,7 +5,7 @@ use labels::LabelKind;
 use labels::dated::Dated;
 use logic::types::{Formula, State};
 use records::rows::Rows;
-use sample_states::{named, plain};
+use sample_states::{named, plain, referring_second, told};
 use std::test::Fail;
 
 #[test]
@@ -61,13 +61,13 @@ fn referred(rt: HostRuntime) -> Result<(), Fail> {
     has_labels(
         &rt,
         &formulas,
-        &[plain(0), plain(0), referring(0, 2, 1)],
+        &[plain(0), plain(0), referring_second(2, 1)],
         &[-256, -255, 254],
     )?;
     has_labels(
         &rt,
         &formulas,
-        &[plain(0), plain(0), referring(0, 3, 1)],
+        &[plain(0), plain(0), referring_second(3, 1)],
         &[-256, -255, -254],
     )
 }
@@ -103,13 +103,13 @@ fn bound_to_target(rt: HostRuntime) -> Result<(), Fail> {
     has_labels(
         &rt,
         &formulas,
-        &[plain(1), plain(0), referring(0, 2, 1)],
+        &[plain(1), plain(0), referring_second(2, 1)],
         &[-256, -255, 254],
     )?;
     has_labels(
         &rt,
         &formulas,
-        &[plain(1), plain(0), referring(0, 2, 2)],
+        &[plain(1), plain(0), referring_second(2, 2)],
         &[-256, -255, -254],
     )
 }
@@ -122,7 +122,7 @@ fn memory_after(rt: HostRuntime) -> Result<(), Fail> {
     let mut labels = [Dated::true_from(9); 8];
     let mut work = [Dated::false_from(9); 8];
     assert_eq!(rt;
-        outcome(label_whole(&table, &Rows::new(&log), &mut labels, &mut work)),
+        told(label_whole(&table, &Rows::new(&log), &mut labels, &mut work)),
         Ok(2)
     );
     has_values(&rt, &labels, &[0, 0, 0, 0, 256, 255, 248, 248]);

@@ -1,22 +1,12 @@
-// States and tables for the tests, and the number by which a labelling is refused.
-use faults::fault::Fault;
+// Tables for the tests, and what they expect of labels.
 use labelling::whole::label_whole;
 use labels::LabelKind;
 use labels::dated::Dated;
-use logic::types::{Formula, Reference, Rule, State};
+use logic::types::{Formula, Rule, State};
 use records::rows::Rows;
-use refusals::Refusal;
-use sample_states::plain;
 use std::process::Abort;
 use std::test::Fail;
 use table::finished::Table;
-
-pub fn referring(signals: u32, kind: u8, target: u16) -> State {
-    State {
-        second: Reference { kind, target },
-        ..plain(signals)
-    }
-}
 
 // The table of these formulas, with a rule of the last one.
 pub fn table_of(formulas: &[Formula]) -> Result<Table, Fail> {
@@ -26,11 +16,6 @@ pub fn table_of(formulas: &[Formula]) -> Result<Table, Fail> {
         content: last,
     };
     Table::of(formulas, &[rule]).map_err(|_| Fail::new("no table"))
-}
-
-// The number of states, or the refusal's number and place.
-pub fn outcome(answer: Result<usize, Refusal>) -> Result<usize, (u8, usize)> {
-    answer.map_err(|refusal| (refusal.number(), refusal.place()))
 }
 
 // The last formula is labelled so at the states, in dated numbers.

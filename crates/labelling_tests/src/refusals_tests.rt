@@ -5,7 +5,7 @@ use labels::LabelKind;
 use labels::dated::Dated;
 use logic::types::{Formula, State};
 use records::rows::Rows;
-use sample_states::{named, plain};
+use sample_states::{named, plain, referring_second, told};
 use std::process::Abort;
 use std::test::Fail;
 use strips::Strip;
@@ -23,7 +23,7 @@ fn tried(
     let mut labels = [Dated::true_from(9); 8];
     let mut work = [Dated::true_from(9); 8];
     assert!(rt; cells <= 8 && room <= 8);
-    Ok(outcome(label_whole(
+    Ok(told(label_whole(
         &table,
         &Rows::new(log),
         &mut labels[0..cells],
@@ -38,11 +38,11 @@ fn length_of_strips(rt: HostRuntime) -> Result<(), Fail> {
     let mut labels = [Strip::unknown(); 65];
     let mut work = [Strip::unknown(); 65];
     assert_eq!(rt;
-        outcome(label_whole(&table, &Rows::new(&log), &mut labels, &mut work)),
+        told(label_whole(&table, &Rows::new(&log), &mut labels, &mut work)),
         Err((7, 0))
     );
     assert_eq!(rt;
-        outcome(label_whole(&table, &Rows::new(&log[0..64]), &mut labels, &mut work)),
+        told(label_whole(&table, &Rows::new(&log[0..64]), &mut labels, &mut work)),
         Ok(64)
     );
     assert!(rt;
@@ -58,11 +58,11 @@ fn length_of_dates(rt: HostRuntime) -> Result<(), Fail> {
     let mut labels = [Dated::unknown(); 257];
     let mut work = [Dated::unknown(); 257];
     assert_eq!(rt;
-        outcome(label_whole(&table, &Rows::new(&log), &mut labels, &mut work)),
+        told(label_whole(&table, &Rows::new(&log), &mut labels, &mut work)),
         Err((7, 0))
     );
     assert_eq!(rt;
-        outcome(label_whole(&table, &Rows::new(&log[0..256]), &mut labels, &mut work)),
+        told(label_whole(&table, &Rows::new(&log[0..256]), &mut labels, &mut work)),
         Ok(256)
     );
     assert!(rt; labels[255].value() == -1 && labels[256].value() == 0);
@@ -86,16 +86,19 @@ fn unlawful_states(rt: HostRuntime) -> Result<(), Fail> {
         Err((10, 3))
     );
     assert_eq!(rt;
-        tried(&rt, &[plain(0), referring(0, 2, 2)], 8, 8)?,
-        Err((11, 2))
-    );
-    assert_eq!(rt; tried(&rt, &[plain(0), referring(0, 2, 1)], 8, 8)?, Ok(2));
-    assert_eq!(rt;
-        tried(&rt, &[plain(0), referring(0, 16, 1)], 8, 8)?,
+        tried(&rt, &[plain(0), referring_second(2, 2)], 8, 8)?,
         Err((11, 2))
     );
     assert_eq!(rt;
-        tried(&rt, &[plain(0), referring(0, 0, 1)], 8, 8)?,
+        tried(&rt, &[plain(0), referring_second(2, 1)], 8, 8)?,
+        Ok(2)
+    );
+    assert_eq!(rt;
+        tried(&rt, &[plain(0), referring_second(16, 1)], 8, 8)?,
+        Err((11, 2))
+    );
+    assert_eq!(rt;
+        tried(&rt, &[plain(0), referring_second(0, 1)], 8, 8)?,
         Err((11, 2))
     );
     Ok(())
@@ -105,12 +108,17 @@ fn unlawful_states(rt: HostRuntime) -> Result<(), Fail> {
 fn first_refusal(rt: HostRuntime) -> Result<(), Fail> {
     let both = State {
         nominal: 3,
-        ..referring(0, 2, 9)
+        ..referring_second(2, 9)
     };
     assert_eq!(rt; tried(&rt, &[named(0, 3), both], 3, 8)?, Err((9, 0)));
     assert_eq!(rt; tried(&rt, &[named(0, 3), both], 8, 8)?, Err((10, 2)));
     assert_eq!(rt;
-        tried(&rt, &[named(0, 3), referring(0, 2, 2), named(0, 3)], 8, 8)?,
+        tried(
+            &rt,
+            &[named(0, 3), referring_second(2, 2), named(0, 3)],
+            8,
+            8
+        )?,
         Err((11, 2))
     );
     assert_eq!(rt; tried(&rt, &[both; 257], 0, 0)?, Err((7, 0)));
@@ -124,7 +132,7 @@ fn memory_after_refusal(rt: HostRuntime) -> Result<(), Fail> {
     let mut labels = [Dated::true_from(9); 4];
     let mut work = [Dated::false_from(9); 4];
     assert_eq!(rt;
-        outcome(label_whole(&table, &Rows::new(&log), &mut labels, &mut work)),
+        told(label_whole(&table, &Rows::new(&log), &mut labels, &mut work)),
         Err((10, 2))
     );
     has_values(&rt, &labels, &[248, 248, 248, 248]);

@@ -13,6 +13,7 @@ ghost use Rattle.monitor.specs.Whole.{WholeAnswered, Agrees};
 
 use crate::book::Book;
 use crate::live::Monitor;
+use crate::reading::Expectation;
 use expectations::reading::verdict_of;
 use expectations::types::{Notice, Standing, Tally, Verdict};
 use labelling::whole::label_whole;
@@ -114,7 +115,12 @@ impl<R: Growing> Monitor<R> {
         let rule = self.book.rule(rule)?;
         within(state, 1, n, Refusal::NoSuchState)?;
         within(point, state, n, Refusal::NoSuchPoint)?;
-        Ok(self.book.standing(rule, state, point))
+        let expectation = Expectation {
+            book: &self.book,
+            rule,
+            state,
+        };
+        Ok(expectation.standing(point))
     }
 
     // The tally of a rule, as the last accepted point reads it.

@@ -1,8 +1,8 @@
 // What a monitor's memory tells, and how the tallies are counted again.
-ghost use Rattle.std.specs.Prelude.{◌≡◌, ℕ, ◌+◌, ◌-◌, ◌*◌, ◌^◌, ◌<◌, ◌≤◌, List, [], ◌∷◌, ◌++◌, length};
+ghost use Rattle.std.specs.Prelude.{◌≡◌, ℕ, ◌+◌, ◌-◌, ◌*◌, ◌^◌, ◌<◌, ◌≤◌, List, [], ◌∷◌, ◌++◌, length, slice_index_or};
 ghost use Rattle.std.specs.List.{slice_get, flat_map};
 ghost use Rattle.std.specs.Option.{option_to_list};
-ghost use Rattle.expectations.specs.Expectations.{raises, standing as standing_of, tallied, added, of_state, notices};
+ghost use Rattle.expectations.specs.Expectations.{raises, standing as standing_of, tallied, added, of_state, notices, no_rule};
 ghost use Rattle.table.specs.Tables.{InOrder};
 ghost use Rattle.monitor.specs.Book.{held, table_of, rules_in, SameButTallies, TalliesRight};
 
@@ -41,6 +41,65 @@ fn change(t: &mut Tally, to: Tally)
     *t = to;
 }
 
+// What a rule expects of a state, by the labels of a book. The numbers are small enough that a cell is found by them.
+#[derive(Drop)]
+pub(crate) struct Expectation<'a> {
+    pub(crate) book: &'a Book,
+    pub(crate) rule: Rule,
+    pub(crate) state: usize,
+    ghost named: { (rule.condition < 2 ^ 16) × (rule.content < 2 ^ 16) },
+    ghost numbered: { (1 ≤ state) × (state < 2 ^ 16) },
+}
+
+impl Expectation<'_> {
+    // Whether the condition is true at the state, from there on.
+    fn is_raised(&self) -> bool
+        ensures { result ≡ raises (held self.now.book.now) self.now.rule self.now.state }
+    {
+        is_true_from(self.book.label(self.rule.condition, self.state), self.state)
+    }
+
+    // The label of what is expected.
+    fn content(&self) -> Label
+        ensures { result ≡ held self.now.book.now self.now.rule.content self.now.state }
+    {
+        self.book.label(self.rule.content, self.state)
+    }
+
+    // What has become of it, as a truncation point reads it.
+    pub(crate) fn standing(&self, point: usize) -> Standing
+        ensures { result ≡ standing_of (held self.now.book.now) self.now.rule self.now.state point }
+    {
+        if self.is_raised() {
+            judge(self.content(), point)
+        } else {
+            Standing::NotRaised
+        }
+    }
+
+    // The notices that a point has on it, by the number of its rule: a raising, a fulfilment, a violation.
+    fn events(&self, r: usize, point: usize) -> [Option<Notice>; 3]
+        ensures { flat_map option_to_list result ≡ of_state (held self.now.book.now) point r self.now.rule self.now.state }
+    {
+        if !self.is_raised() {
+            return [None; 3];
+        }
+        let content = self.content();
+        let told = |is_so: bool, event: Event| {
+            is_so.then_some(Notice {
+                rule: r,
+                from: self.state,
+                event,
+            })
+        };
+        [
+            told(self.state == point, Event::Raising),
+            told(is_true_from(content, point), Event::Fulfilling),
+            told(is_false_from(content, point), Event::Violating),
+        ]
+    }
+}
+
 impl Book {
     // The label of formula f at state i.
     pub(crate) fn label(&self, f: usize, i: usize) -> Label
@@ -52,34 +111,21 @@ impl Book {
             .map_or(Label::Unknown, |cell| label_told(*cell))
     }
 
-    fn raises_at(&self, rule: Rule, s: usize) -> bool
-        requires { (rule.condition < 2 ^ 16) × ((1 ≤ s) × (s < 2 ^ 16)) }
-        ensures { result ≡ raises (held self.now) rule s }
+    // The tally of rule r as the last point reads it, counted from the labels.
+    fn tally_of(&self, r: usize) -> Tally
+        requires { r < length (rules_in self.now) }
+        ensures { result ≡ tallied (held self.now) (slice_index_or (rules_in self.now) r no_rule) self.now.count self.now.count }
     {
-        is_true_from(self.label(rule.condition, s), s)
-    }
-
-    // What has become of the rule's expectation of state s, as a truncation point reads it.
-    pub(crate) fn standing(&self, rule: Rule, s: usize, point: usize) -> Standing
-        requires { (rule.condition < 2 ^ 16) × ((rule.content < 2 ^ 16) × ((1 ≤ s) × (s < 2 ^ 16))) }
-        ensures { result ≡ standing_of (held self.now) rule s point }
-    {
-        if self.raises_at(rule, s) {
-            judge(self.label(rule.content, s), point)
-        } else {
-            Standing::NotRaised
-        }
-    }
-
-    // A rule's tally as the last point reads it, counted from the labels.
-    fn tally_of(&self, rule: Rule) -> Tally
-        requires { (rule.condition < 2 ^ 16) × (rule.content < 2 ^ 16) }
-        ensures { result ≡ tallied (held self.now) rule self.now.count self.now.count }
-    {
+        let rule = self.table.rules()[r];
         let mut t = Tally::default();
         // Not `1..=`, after which it is not known where an empty loop ends.
-        for s in 1..self.count + 1 {
-            count_one(&mut t, self.standing(rule, s, self.count));
+        for state in 1..self.count + 1 {
+            let expectation = Expectation {
+                book: self,
+                rule,
+                state,
+            };
+            count_one(&mut t, expectation.standing(self.count));
         }
         t
     }
@@ -91,34 +137,9 @@ impl Book {
     {
         // By number, since no proof is made where a tally changes while the table is lent.
         for r in 0..self.table.rules().len() {
-            let t = self.tally_of(self.table.rules()[r]);
+            let t = self.tally_of(r);
             change(&mut self.tallies[r], t);
         }
-    }
-}
-
-impl Book {
-    // The notices that a point has on the expectation that a rule has of state s: a raising, a fulfilment, a violation.
-    fn events(&self, r: usize, rule: Rule, s: usize, point: usize) -> [Option<Notice>; 3]
-        requires { (rule.condition < 2 ^ 16) × ((rule.content < 2 ^ 16) × ((1 ≤ s) × (s < 2 ^ 16))) }
-        ensures { flat_map option_to_list result ≡ of_state (held self.now) point r rule s }
-    {
-        if !self.raises_at(rule, s) {
-            return [None; 3];
-        }
-        let content = self.label(rule.content, s);
-        let told = |is_so: bool, event: Event| {
-            is_so.then_some(Notice {
-                rule: r,
-                from: s,
-                event,
-            })
-        };
-        [
-            told(s == point, Event::Raising),
-            told(is_true_from(content, point), Event::Fulfilling),
-            told(is_false_from(content, point), Event::Violating),
-        ]
     }
 
     // The k-th notice of a point: by rule, then by raising state, a raising before its own decision.
@@ -131,9 +152,14 @@ impl Book {
         let mut told = None;
         'found: for (r, rule) in self.table.rules().iter().enumerate() {
             // Not `1..=`, as in `tally_of`.
-            for s in 1..point + 1 {
+            for state in 1..point + 1 {
+                let expectation = Expectation {
+                    book: self,
+                    rule: *rule,
+                    state,
+                };
                 // Not by `flatten`: an invariant would have to say what its source and its inner iterators have left.
-                for event in self.events(r, *rule, s, point) {
+                for event in expectation.events(r, point) {
                     if let Some(notice) = event {
                         if more == 0 {
                             told = Some(notice);

@@ -1,15 +1,14 @@
 // What a monitor answers while its record grows.
 use crate::asks::*;
+use crate::both::over_both;
 use crate::samples::*;
 use expectations::types::{Event, Standing, Verdict};
 use labels::LabelKind;
 use labels::dated::Dated;
 use monitor::live::Monitor;
-use records::change_record::ChangeRecord;
 use records::growing::Growing;
-use records::readable::{BLANK, Readable};
-use records::table::TableRecord;
-use sample_states::{named, plain};
+use records::readable::Readable;
+use sample_states::{named, plain, told};
 use std::process::Abort;
 use std::test::Fail;
 
@@ -134,42 +133,30 @@ fn labels_whole<R: Growing + Drop>(rt: &impl Abort, log: R) -> Result<(), Fail> 
 
 #[test]
 fn notices_in_order(rt: HostRuntime) -> Result<(), Fail> {
-    let mut rows = [BLANK; 4];
-    tells_notices(&rt, TableRecord::new(&mut rows))?;
-    tells_notices(&rt, ChangeRecord::new())
+    over_both!(&rt, 4, tells_notices)
 }
 
 #[test]
 fn tallies(rt: HostRuntime) -> Result<(), Fail> {
-    let mut rows = [BLANK; 12];
-    tells_tallies(&rt, TableRecord::new(&mut rows))?;
-    tells_tallies(&rt, ChangeRecord::new())
+    over_both!(&rt, 12, tells_tallies)
 }
 
 #[test]
 fn violated_for_good(rt: HostRuntime) -> Result<(), Fail> {
-    let mut rows = [BLANK; 9];
-    stays_violated(&rt, TableRecord::new(&mut rows))?;
-    stays_violated(&rt, ChangeRecord::new())
+    over_both!(&rt, 9, stays_violated)
 }
 
 #[test]
 fn condition_looks_ahead(rt: HostRuntime) -> Result<(), Fail> {
-    let mut rows = [BLANK; 3];
-    never_raises(&rt, TableRecord::new(&mut rows))?;
-    never_raises(&rt, ChangeRecord::new())
+    over_both!(&rt, 3, never_raises)
 }
 
 #[test]
 fn late_nominal(rt: HostRuntime) -> Result<(), Fail> {
-    let mut rows = [BLANK; 7];
-    names_late(&rt, TableRecord::new(&mut rows))?;
-    names_late(&rt, ChangeRecord::new())
+    over_both!(&rt, 7, names_late)
 }
 
 #[test]
 fn whole_record(rt: HostRuntime) -> Result<(), Fail> {
-    let mut rows = [BLANK; 3];
-    labels_whole(&rt, TableRecord::new(&mut rows))?;
-    labels_whole(&rt, ChangeRecord::new())
+    over_both!(&rt, 3, labels_whole)
 }

@@ -1,18 +1,12 @@
 // What the tests ask of a monitor, and what they expect of its answers.
 use crate::samples::*;
 use expectations::types::{Event, Notice, Tally};
-use faults::fault::Fault;
 use logic::types::State;
 use monitor::live::Monitor;
 use records::growing::Growing;
-use refusals::Refusal;
+use sample_states::told;
 use std::process::Abort;
 use std::test::Fail;
-
-// The answer, or the refusal's number and place.
-pub fn told<T: Drop>(answer: Result<T, Refusal>) -> Result<T, (u8, usize)> {
-    answer.map_err(|refusal| (refusal.number(), refusal.place()))
-}
 
 // A new monitor over a record, with these states appended.
 pub fn watched<R: Growing + Drop>(

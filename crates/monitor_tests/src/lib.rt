@@ -6,6 +6,8 @@ mod answers_tests;
 #[cfg(test)]
 mod asks;
 #[cfg(test)]
+mod both;
+#[cfg(test)]
 mod limits_tests;
 #[cfg(test)]
 mod refusals_tests;

@@ -7,7 +7,7 @@ use records::change_record::ChangeRecord;
 use records::growing::Growing;
 use records::readable::{BLANK, Readable};
 use records::table::TableRecord;
-use sample_states::plain;
+use sample_states::{plain, referring};
 use std::process::Abort;
 use std::test::Fail;
 

@@ -1,15 +1,14 @@
 // Which refusal fits first, and what it leaves.
 use crate::asks::*;
+use crate::both::over_both;
 use crate::samples::*;
 use labels::LabelKind;
 use labels::dated::Dated;
 use logic::types::State;
 use monitor::live::Monitor;
-use records::change_record::ChangeRecord;
 use records::growing::Growing;
-use records::readable::{BLANK, Readable};
-use records::table::TableRecord;
-use sample_states::{named, plain};
+use records::readable::Readable;
+use sample_states::{named, plain, referring, referring_second, told};
 use std::process::Abort;
 use std::test::Fail;
 
@@ -136,35 +135,25 @@ fn refuses_foreign<R: Growing + Drop>(rt: &impl Abort, log: R) -> Result<(), Fai
 
 #[test]
 fn unfit_references(rt: HostRuntime) -> Result<(), Fail> {
-    let mut rows = [BLANK; 3];
-    refuses_references(&rt, TableRecord::new(&mut rows))?;
-    refuses_references(&rt, ChangeRecord::new())
+    over_both!(&rt, 3, refuses_references)
 }
 
 #[test]
 fn nominals_twice(rt: HostRuntime) -> Result<(), Fail> {
-    let mut rows = [BLANK; 4];
-    refuses_nominals(&rt, TableRecord::new(&mut rows))?;
-    refuses_nominals(&rt, ChangeRecord::new())
+    over_both!(&rt, 4, refuses_nominals)
 }
 
 #[test]
 fn queries_out_of_range(rt: HostRuntime) -> Result<(), Fail> {
-    let mut rows = [BLANK; 3];
-    refuses_queries(&rt, TableRecord::new(&mut rows))?;
-    refuses_queries(&rt, ChangeRecord::new())
+    over_both!(&rt, 3, refuses_queries)
 }
 
 #[test]
 fn queries_of_no_state(rt: HostRuntime) -> Result<(), Fail> {
-    let mut rows = [BLANK; 1];
-    starts_empty(&rt, TableRecord::new(&mut rows))?;
-    starts_empty(&rt, ChangeRecord::new())
+    over_both!(&rt, 1, starts_empty)
 }
 
 #[test]
 fn foreign_records(rt: HostRuntime) -> Result<(), Fail> {
-    let mut rows = [BLANK; 1];
-    refuses_foreign(&rt, TableRecord::new(&mut rows))?;
-    refuses_foreign(&rt, ChangeRecord::new())
+    over_both!(&rt, 1, refuses_foreign)
 }

@@ -1,5 +1,5 @@
-// The states and the table of the tests.
-use logic::types::{Formula, Reference, Rule, State};
+// The table of the tests.
+use logic::types::{Formula, Rule};
 use std::test::Fail;
 use table::finished::Table;
 
@@ -44,18 +44,4 @@ const LIST_OF_RULES: [Rule; RULES] = [
 
 pub fn table() -> Result<Table, Fail> {
     Table::of(&LIST, &LIST_OF_RULES).map_err(|_| Fail::new("no table"))
-}
-
-pub fn referring(kind: u8, target: u16) -> State {
-    State {
-        first: Reference { kind, target },
-        ..State::default()
-    }
-}
-
-pub fn referring_second(kind: u8, target: u16) -> State {
-    State {
-        second: Reference { kind, target },
-        ..State::default()
-    }
 }

@@ -1,10 +1,16 @@
--- States without references.
+-- The states that tests are made of.
 use Rattle.std.specs.Prelude.{ℕ}
 use Rattle.logic.specs.declared.types.Reference.{Reference}
 use Rattle.logic.specs.declared.types.State.{State}
 
+abbrev pub reference : (kind target : ℕ) → Reference
+reference kind target = record { kind = kind; target = target }
+
 abbrev pub no_reference : Reference
-no_reference = record { kind = 0; target = 0 }
+no_reference = reference 0 0
 
 abbrev pub with_nominal : (signals nominal : ℕ) → State
 with_nominal signals nominal = record { signals = signals; nominal = nominal; first = no_reference; second = no_reference }
+
+abbrev pub with_references : (first second : Reference) → State
+with_references first second = record { signals = 0; nominal = 0; first = first; second = second }

@@ -38,7 +38,7 @@ fn calls() -> [Call; CALLS]
 }
 
 // The answers to these calls on a new monitor. By them the slot of state 3 is violated for good: on no lawful trace that
-// begins with the log is it freed in time.
+// begins with the log is it freed in time. Arrays, and no `Vec`: an allocation could fail, and this always answers `Ok`.
 pub fn violated_for_good() -> Result<[Result<Answer, Refusal>; CALLS], Defect>
     ensures told { result ≡ Ok slot_answers }
     ensures lasts { ForGood }

@@ -8,6 +8,6 @@ pub loop-event-init : goal.loop-event-init
 loop-event-init c =
     let b = c.args.self.now in
     let r = c.found.r in (
-      state_begins (held b) c.args.point r (get_or c.rules-rule-items.result.now r no_rule) c.loop-s.s _ (from_rule (held b) c.args.point (r + 1) (drop (r + 1) (rules_in b))) c.loop-s.more _ (omega arith) c.events-event-items.ensures c.loop-s.invariant.0,
-      c.loop-s.invariant.1,
+      state_begins (held b) c.args.point r (get_or c.rules-rule-items.result.now r no_rule) c.loop-state.state _ (from_rule (held b) c.args.point (r + 1) (drop (r + 1) (rules_in b))) c.loop-state.more _ (omega arith) c.events-event-items.ensures c.loop-state.invariant.0,
+      c.loop-state.invariant.1,
     )

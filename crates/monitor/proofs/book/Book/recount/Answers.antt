@@ -1,7 +1,6 @@
-use Rattle.std.proofs.Common.{◌≢◌, get_or, ap, ◌∙◌, arith, below_more}
+use Rattle.std.proofs.Common.{◌≢◌, ◌∙◌, arith, below_more}
 use Rattle.std.proofs.lemmas.List.{get_or-set_same, get_or-set_other}
-use Rattle.expectations.specs.Expectations.{no_rule, no_tally, tallied}
-use Rattle.monitor.specs.Book.{held}
+use Rattle.expectations.specs.Expectations.{no_tally}
 use Rattle.monitor.proofs.book.Book.recount.Goals as goal
 
 pub loop-r-preserved : goal.loop-r-preserved
@@ -11,6 +10,5 @@ loop-r-preserved c =
       c.loop-r.invariant.0,
       below_more _ _
           (λ k h. let ne : k ≢ r = omega arith in get_or-set_other b.tallies r k c.change.new.t no_tally ne ∙ c.loop-r.invariant.1 k h)
-          (get_or-set_same b.tallies r c.change.new.t no_tally (omega arith) ∙ c.change.ensures ∙ c.tally_of-t.ensures
-          ∙ ap (λ rs. tallied (held b) (get_or rs r no_rule) b.count b.count) c.rules.ensures.list),
+          (get_or-set_same b.tallies r c.change.new.t no_tally (omega arith) ∙ c.change.ensures ∙ c.tally_of-t.ensures),
     )
