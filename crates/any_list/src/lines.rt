@@ -5,7 +5,6 @@ ghost use Rattle.any_list.specs.Replies.{read};
 use crate::calls::CALLS;
 use answers::types::Answer;
 use expectations::types::Verdict;
-use faults::fault::Fault;
 use labels::LabelKind;
 use records::growing::Growing;
 use refusals::Refusal;
@@ -16,13 +15,9 @@ use table::finished::Table;
 // How many states the list of calls leaves.
 const STATES: usize = 4;
 
-fn print_refusal(rt: &HostRuntime, refusal: Refusal) -> io::Result<()> {
-    println!(rt; "refused={} place={}", refusal.number(), refusal.place())
-}
-
 fn print_answer(rt: &HostRuntime, answer: Result<Answer, Refusal>) -> io::Result<()> {
     match answer {
-        Err(refusal) => print_refusal(rt, refusal),
+        Err(refusal) => println!(rt; "{refusal}"),
         Ok(Answer::Number(number)) => println!(rt; "state={number}"),
         Ok(Answer::Reads(verdict)) => println!(rt; "reads={verdict}"),
         Ok(Answer::Stands(standing)) => println!(rt; "stands={standing} date={}", standing.date()),
@@ -71,13 +66,13 @@ pub fn print_run<K: LabelKind + Copy, R: Growing + Drop>(
                 print_answer(rt, *answer)?;
             }
         }
-        Err(refusal) => print_refusal(rt, refusal)?,
+        Err(refusal) => println!(rt; "{refusal}")?,
     }
     match outcome.labelled {
         Ok(n) => {
             println!(rt; "labelled={n}")?;
             print_labels(rt, &labels)
         }
-        Err(refusal) => print_refusal(rt, refusal),
+        Err(refusal) => println!(rt; "{refusal}"),
     }
 }

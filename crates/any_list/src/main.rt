@@ -34,6 +34,6 @@ fn print_runs(rt: &HostRuntime, table: Table) -> io::Result<()> {
 fn main(rt: HostRuntime) -> io::Result<()> {
     match reply_table() {
         Ok(table) => print_runs(&rt, table),
-        Err(defect) => println!(rt; "refused={}", defect.number()),
+        Err(defect) => println!(rt; "{defect}"),
     }
 }

@@ -1,5 +1,5 @@
 -- What a refusal of a text tells: its number, its layer and its place.
-use Rattle.std.specs.Prelude.{ℕ}
+use Rattle.std.specs.Prelude.{ℕ, List, ◌++◌, codes, decimal}
 use Rattle.faults.specs.declared.layer.Layer.{Layer}
 use Rattle.faults.specs.declared.layer.Layer.TheVariants as layer
 use Rattle.faults.specs.declared.line.LineFault.{LineFault}
@@ -28,3 +28,7 @@ of_table (Loose line) = record { number = 5; layer = layer.Table; place = line }
 abbrev pub refusal : ReadFault → Refusal
 refusal (read.Line fault) = of_line fault
 refusal (read.Table fault) = of_table fault
+
+-- the bytes of a reader's fault
+abbrev pub fault_text : ReadFault → List ℕ
+fault_text x = codes "refused=" ++ (decimal (refusal x).number ++ (codes " line=" ++ decimal (refusal x).place))

@@ -1,11 +1,12 @@
-ghost use Rattle.std.specs.Prelude.{◌≡◌};
-ghost use Rattle.faults.specs.Refusals.{refusal};
+ghost use Rattle.std.specs.Prelude.{◌≡◌, Some};
+ghost use Rattle.faults.specs.Refusals.{refusal, fault_text};
 ghost use Rattle.faults.specs.declared.read.ReadFault.TheVariants.{Line, Table};
 
 use crate::fault::Fault;
 use crate::layer::Layer;
 use crate::line::LineFault;
 use crate::table::TableFault;
+use std::fmt;
 
 // Why a reader refuses a text.
 #[derive(Drop, Clone, Copy, PartialEq, Eq, Debug)]
@@ -30,6 +31,8 @@ impl From<TableFault> for ReadFault {
     }
 }
 
+// Its cases pass each question on. Another enum of two faults does so too: one enum for both, over any two types of fault,
+// would lose the names of the cases.
 impl Fault for ReadFault {
     ghost told = { refusal };
 
@@ -52,5 +55,14 @@ impl Fault for ReadFault {
             ReadFault::Line(fault) => fault.place(),
             ReadFault::Table(fault) => fault.place(),
         }
+    }
+}
+
+// The number, and the line that is refused.
+impl fmt::Display for ReadFault {
+    ghost output = { λ x. Some (fault_text x) };
+
+    fn fmt<W: fmt::Write>(&self, f: &mut fmt::Formatter<W>) -> fmt::Result {
+        write!(f, "refused={} line={}", self.number(), self.place())
     }
 }

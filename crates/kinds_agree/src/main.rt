@@ -31,6 +31,6 @@ fn main(rt: HostRuntime) -> io::Result<()> {
             let agreed = count_agreeing(&table);
             println!(rt; "logs={LOGS} agreed={agreed}")
         }
-        Err(defect) => println!(rt; "refused={}", defect.number()),
+        Err(defect) => println!(rt; "{defect}"),
     }
 }

@@ -7,12 +7,10 @@ mod rows;
 
 use crate::asking::label_of;
 use crate::rows::Row;
-use faults::fault::Fault;
 use monitor::live::Monitor;
 use records::growing::Growing;
 use records::readable::{BLANK, Readable};
 use records::table::TableRecord;
-use refusals::Refusal;
 use rulestexts::texts::read_rules_text;
 use std::{fs, io};
 use textrecord::text::TextRecord;
@@ -49,14 +47,6 @@ const EXAMPLES: [Example; 3] = [
     },
 ];
 
-fn print_refusal(rt: &HostRuntime, name: &str, refusal: Refusal) -> io::Result<()> {
-    println!(rt;
-        "{name} refused={} place={}",
-        refusal.number(),
-        refusal.place()
-    )
-}
-
 // Prints the label of a formula at each state.
 fn print_labels<R: Growing>(
     rt: &HostRuntime,
@@ -76,7 +66,7 @@ fn print_labels<R: Growing>(
                 };
                 println!(rt; "{name} {row}")?;
             }
-            Err(refusal) => return print_refusal(rt, name, refusal),
+            Err(refusal) => return println!(rt; "{name} {refusal}"),
         }
     }
     Ok(())
@@ -92,7 +82,7 @@ fn follow<R: Growing + Drop>(
     let last = log.count();
     for state in 1..=last {
         if let Err(refusal) = monitor.append(log.state(state)) {
-            return print_refusal(rt, example.name, refusal);
+            return println!(rt; "{} {refusal}", example.name);
         }
         if example.each || state == last {
             for formula in example.formulas {
@@ -113,7 +103,7 @@ fn print_example(rt: &HostRuntime, example: Example) -> io::Result<()> {
             let monitor = Monitor::new(rules.value, TableRecord::new(&mut rows));
             follow(rt, example, monitor, TextRecord::new(&text[rules.used..]))
         }
-        Err(fault) => println!(rt; "{name} refused={} line={}", fault.number(), fault.place()),
+        Err(fault) => println!(rt; "{name} {fault}"),
     }
 }
 

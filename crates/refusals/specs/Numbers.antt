@@ -1,5 +1,5 @@
 -- What a refusal of the monitor's layer tells: its number, its layer and its place.
-use Rattle.std.specs.Prelude.{ℕ}
+use Rattle.std.specs.Prelude.{ℕ, List, ◌++◌, codes, decimal}
 use Rattle.faults.specs.Refusals.{Refusal as Told}
 use Rattle.faults.specs.declared.layer.Layer.TheVariants.{Monitor}
 use Rattle.refusals.specs.declared.Refusal.{Refusal}
@@ -20,3 +20,7 @@ told NoSuchName = numbered 12 0
 told LooseFormula = numbered 13 0
 told NoSuchState = numbered 14 0
 told NoSuchPoint = numbered 15 0
+
+-- the bytes of a refusal
+abbrev pub refusal_text : Refusal → List ℕ
+refusal_text x = codes "refused=" ++ (decimal (told x).number ++ (codes " place=" ++ decimal (told x).place))

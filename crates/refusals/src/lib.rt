@@ -1,10 +1,12 @@
 // Why the monitor's layer declines a call.
 #![tactic(auto)]
 
-ghost use Rattle.refusals.specs.Numbers.{told as told_of};
+ghost use Rattle.std.specs.Prelude.{Some};
+ghost use Rattle.refusals.specs.Numbers.{told as told_of, refusal_text};
 
 use faults::fault::Fault;
 use faults::layer::Layer;
+use std::fmt;
 
 #[derive(Drop, Clone, Copy, PartialEq, Eq, Debug)]
 pub enum Refusal {
@@ -56,5 +58,14 @@ impl Fault for Refusal {
             Refusal::NominalTaken(state) | Refusal::ReferenceUnfit(state) => state,
             _ => 0,
         }
+    }
+}
+
+// The number, and the state that the refusal is about, or 0.
+impl fmt::Display for Refusal {
+    ghost output = { λ x. Some (refusal_text x) };
+
+    fn fmt<W: fmt::Write>(&self, f: &mut fmt::Formatter<W>) -> fmt::Result {
+        write!(f, "refused={} place={}", self.number(), self.place())
     }
 }

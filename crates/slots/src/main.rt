@@ -19,7 +19,7 @@ use records::readable::BLANK;
 use records::table::TableRecord;
 use std::io;
 
-// A story that a refusal ends is told so far, and then the refusal.
+// A story that a refusal ends is told so far, and then the number of the refusal, which is all that this program tells of it.
 fn ended(rt: &HostRuntime, end: Result<(), Stop>) -> io::Result<()> {
     match end {
         Ok(()) => Ok(()),
@@ -31,7 +31,7 @@ fn ended(rt: &HostRuntime, end: Result<(), Stop>) -> io::Result<()> {
 fn main(rt: HostRuntime) -> io::Result<()> {
     let table = match slot_table() {
         Ok(table) => table,
-        Err(defect) => return println!(rt; "refused={}", defect.number()),
+        Err(defect) => return println!(rt; "{defect}"),
     };
     let log = double_free();
     let mut rows = [BLANK; 8];
