@@ -31,8 +31,7 @@ impl From<TableFault> for ReadFault {
     }
 }
 
-// Its cases pass each question on. Another enum of two faults does so too: one enum for both, over any two types of fault,
-// would lose the names of the cases.
+// Each case passes the questions on.
 impl Fault for ReadFault {
     ghost told = { refusal };
 
