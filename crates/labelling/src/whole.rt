@@ -71,9 +71,7 @@ pub fn label_whole<K: LabelKind + Copy, R: Readable>(
     if labels.len() < total || work.len() < total {
         return Err(Refusal::MemoryTooShort);
     }
-    if let Some(refusal) = first_unlawful(log) {
-        return Err(refusal);
-    }
+    first_unlawful(log)?;
     let job = Job {
         log,
         n,
