@@ -79,10 +79,7 @@ pub(crate) fn label_or<K: LabelKind + Copy>(a: &[K], b: &[K], own: &mut [K])
 fn label_at<K: LabelKind + Copy>(row: &[K], p: usize) -> K
     ensures { Same K.reach (K.reads result) (cell K.reads row.now p) }
 {
-    match row.get(p) {
-        Some(label) => *label,
-        None => K::unknown(),
-    }
+    row.get(p).map_or(K::unknown(), |label| *label)
 }
 
 pub(crate) fn label_next<K: LabelKind + Copy>(a: &[K], own: &mut [K])
@@ -147,10 +144,7 @@ fn label_in<K: LabelKind + Copy>(row: &[K], state: Option<usize>) -> K
     requires { IfSome state (λ i. (1 ≤ i) × (i ≤ length row.now)) }
     ensures { MatchOption state (Same K.reach (K.reads result) opened) (λ i. Same K.reach (K.reads result) (at K.reads row.now i)) }
 {
-    match state {
-        Some(i) => row[i - 1],
-        None => K::unknown(),
-    }
+    state.map_or(K::unknown(), |i| row[i - 1])
 }
 
 // Labels `at`: the label at the state that carries the nominal, as each state sees it; unknown where none carries it.
