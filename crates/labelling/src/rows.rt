@@ -79,7 +79,7 @@ pub(crate) fn label_or<K: LabelKind + Copy>(a: &[K], b: &[K], own: &mut [K])
 fn label_at<K: LabelKind + Copy>(row: &[K], p: usize) -> K
     ensures { Same K.reach (K.reads result) (cell K.reads row.now p) }
 {
-    row.get(p).map_or(K::unknown(), |label| *label)
+    row.get(p).copied().unwrap_or(K::unknown())
 }
 
 pub(crate) fn label_next<K: LabelKind + Copy>(a: &[K], own: &mut [K])

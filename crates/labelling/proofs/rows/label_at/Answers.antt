@@ -12,4 +12,4 @@ read_by reads reach row p (Some y) unknown x none here is e k lo hi = sym (cell_
 
 pub returns : goal.returns
 returns g c =
-    read_by g.K.LabelKind.reads g.K.LabelKind.reach c.args.row.now c.args.p c.get.result c.unknown.result c.map_or.result c.unknown.ensures c.get.ensures.lookup.3 (search rules)
+    read_by g.K.LabelKind.reads g.K.LabelKind.reach c.args.row.now c.args.p c.get.result c.unknown.result c.unwrap_or.result c.unknown.ensures c.get.ensures.lookup.3 (search rules)
