@@ -52,6 +52,7 @@ impl<'a, R: Readable> Binder<'a, R> {
         ensures known { ClosedTold K.reads K.reach self.now.job.now.n (state_at (R.states self.now.job.now.log.now)) self.now.job.now.table.now before.new self.now.f }
         ensures told { (v : ℕ) → Tells K.reads K.reach self.now.job.now.n (state_at (R.states self.now.job.now.log.now)) v (bind (tree self.now.job.now.table.now self.now.part)) own.new }
     {
+        // By place: for each state the part's row is filled anew, and its label is read at that state.
         for (p, cell) in own.iter_mut().enumerate() {
             self.label_bound(p + 1, before);
             *cell = row_of(self.job.n, self.part, before)[p];

@@ -1,4 +1,5 @@
-// The labels of one formula at all states, from those of its parts. A row has one cell for each state.
+// The labels of one formula at all states, from those of its parts. A row has one cell for each state. The rows are lent to
+// each call, so that their one length stands in the clauses.
 ghost use Rattle.std.specs.Prelude.{◌≡◌, ℕ, ◌+◌, ◌*◌, ◌^◌, ◌<◌, ◌≤◌, length, IfSome, MatchOption, slice_index_or};
 ghost use Rattle.labels.specs.Readings.{Same, opened, negated, both, either, seen};
 ghost use Rattle.logic.specs.States.{Trace};
@@ -116,6 +117,8 @@ pub(crate) fn label_previous<K: LabelKind + Copy>(a: &[K], own: &mut [K])
     );
 }
 
+// Apart from `label_since`: this goes back from what is not known yet, that goes forward from false, and only there is the label
+// that is carried seen from each state on.
 pub(crate) fn label_until<K: LabelKind + Copy>(a: &[K], b: &[K], own: &mut [K])
     requires long { (length a.now ≡ length own.old) × (length b.now ≡ length own.old) }
     ensures told { (s : Trace) (v : ℕ) (f g : Tree) → Tells K.reads K.reach (length own.old) s v f a.now → Tells K.reads K.reach (length own.old) s v g b.now → Tells K.reads K.reach (length own.old) s v (until f g) own.new }
@@ -133,6 +136,7 @@ pub(crate) fn label_since<K: LabelKind + Copy>(a: &[K], b: &[K], own: &mut [K])
     ensures told { (s : Trace) (v : ℕ) (f g : Tree) → Tells K.reads K.reach (length own.old) s v f a.now → Tells K.reads K.reach (length own.old) s v g b.now → Tells K.reads K.reach (length own.old) s v (since f g) own.new }
 {
     let mut carried = K::false_from(1);
+    // By place in a and b: after a loop over `iter_mut().zip(..)` nothing is known of the cells.
     for (p, cell) in own.iter_mut().enumerate() {
         carried = b[p].or(a[p].and(carried.seen_from(p + 1)));
         *cell = carried;
