@@ -2,12 +2,13 @@
 use Rattle.std.proofs.Common.{◌≡◌, ℕ, suc, ◌<◌, ◌≤◌, Bool, true, false, cond, not, T, ◌⊎◌, ◌↔◌, ℤ, pos, ◌+ℤ◌, neg_ℤ, ◌≤ℤ◌, ◌<ℤ◌, Decides, sym, refl, subst, inl, inr, arith}
 use mathlib.Core.Logic.Iff
 use mathlib.Core.Logic.{⊎_map}
-use lib.Signed.{lt_z, le_z, lt_z_yes, le_z_yes}
+use lib.Signed.{le_z, lt_z_yes, le_z_yes}
 use Rattle.std.specs.Int.{int_max, int_min}
 use Rattle.std.proofs.lemmas.Bool.{cases_lt, false≢true}
 use Rattle.std.proofs.lemmas.Int.{ints, clamps, by_lt_z}
 use Rattle.logic.specs.Logic.{Kept}
 use Rattle.labels.specs.Dated.{dated}
+use Rattle.labels.proofs.Dates.{lt_true}
 use Rattle.dating.specs.Dated.{true_from, false_from, seen}
 use Rattle.dating.specs.Labels.{at_once}
 
@@ -15,9 +16,6 @@ use Rattle.dating.specs.Labels.{at_once}
 abbrev pub Says : Bool → ℕ → ℤ → Type 0
 Says true c z = false_from c <ℤ z
 Says false c z = true_from c ≤ℤ z
-
-lt_true : (a b : ℤ) → a <ℤ b → lt_z a b ≡ true
-lt_true a b h = grind (arith, ints)
 
 le_true : (a b : ℤ) → a ≤ℤ b → le_z a b ≡ true
 le_true a b h = grind (arith, ints)

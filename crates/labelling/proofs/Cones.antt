@@ -1,5 +1,5 @@
 -- The loose rows that a row is made of. Assumes nothing.
-use Rattle.std.proofs.Common.{◌≡◌, ℕ, ◌+◌, ◌<◌, ◌≤◌, Bool, true, false, List, length, get_or, sym, ap, ◌∙◌, subst, ⊎_elim, arith}
+use Rattle.std.proofs.Common.{◌≡◌, ℕ, ◌+◌, ◌<◌, ◌≤◌, Bool, true, false, List, length, get_or, sym, ap, ◌∙◌, subst, inr, ⊎_elim, arith}
 use Rattle.std.proofs.lemmas.Bool.{cases_lt, cases_eq, true≢false}
 use Rattle.logic.specs.declared.types.Formula.{Formula}
 use Rattle.logic.specs.declared.types.Formula.TheVariants.{True}
@@ -13,6 +13,14 @@ ConeFrom table flags wanted a k =
     ((g : ℕ) → get_or wanted g false ≡ true → (get_or flags g false ≡ true) × (g ≤ a))
     × ((g : ℕ) → k ≤ g → get_or wanted g false ≡ true → EachPart (Wanted flags wanted) (get_or table g True))
     × Wanted flags wanted a
+
+-- one formula more is wanted, that of a part
+pub grown_more : (f x : ℕ) (flags old mid new : List Bool) → x < f → Grown f flags old mid → Grown (x + 1) flags mid new → Grown f flags old new
+grown_more f x flags old mid new below g h k = (
+  (λ t. (h k).0 ((g k).0 t)),
+  (λ past. (h k).1 (omega arith) ∙ (g k).1 past),
+  (λ t. ⊎_elim (λ u. (g k).2 u) (λ u. inr u) ((h k).2 t)),
+)
 
 module _ (flags : List Bool) where
   pub wanted_grown : (f : ℕ) (a b : List Bool) (x : ℕ) → Grown f flags a b → Wanted flags a x → Wanted flags b x

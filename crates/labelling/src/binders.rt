@@ -52,6 +52,7 @@ impl<'a, R: Readable> Binder<'a, R> {
         ensures known { ClosedTold K.reads K.reach self.now.job.now.n (state_at (R.states self.now.job.now.log.now)) self.now.job.now.table.now before.new self.now.f }
         ensures told { (v : ℕ) → Tells K.reads K.reach self.now.job.now.n (state_at (R.states self.now.job.now.log.now)) v (bind (tree self.now.job.now.table.now self.now.part)) own.new }
     {
+        // By place: for each state the part's row is filled anew, and its label is read at that state.
         for (p, cell) in own.iter_mut().enumerate() {
             self.label_bound(p + 1, before);
             *cell = row_of(self.job.n, self.part, before)[p];
@@ -99,6 +100,19 @@ impl<'a, R: Readable> Binder<'a, R> {
 }
 
 impl<'a, R: Readable> Job<'a, R> {
+    // Formula f, which binds the variable in a part, with the loose formulas that the part is made of.
+    fn binder(&self, f: usize, part: usize) -> Binder<'_, R>
+        requires { (f < length self.now.table.now) × (part < f) }
+        ensures { (result.job.now ≡ self.now) × (result.f ≡ f) × (result.part ≡ part) }
+    {
+        Binder {
+            job: self,
+            f,
+            part,
+            wanted: self.cone(part),
+        }
+    }
+
     // Labels formula f, which is not loose, from the formulas before it that are not loose.
     fn label_closed<K: LabelKind + Copy>(&self, f: usize, before: &mut [K], own: &mut [K])
         requires fit { (f < length self.now.table.now) × (loose self.now.table.now f ≡ false) }
@@ -108,26 +122,8 @@ impl<'a, R: Readable> Job<'a, R> {
         ensures told { (v : ℕ) → Tells K.reads K.reach self.now.n (state_at (R.states self.now.log.now)) v (tree self.now.table.now f) own.new }
     {
         match self.table[f] {
-            Formula::Bind(part) => {
-                let wanted = self.cone(part);
-                Binder {
-                    job: self,
-                    f,
-                    part,
-                    wanted,
-                }
-                .label_bind(before, own)
-            }
-            Formula::Some(kind, part) => {
-                let wanted = self.cone(part);
-                Binder {
-                    job: self,
-                    f,
-                    part,
-                    wanted,
-                }
-                .label_some(kind, before, own)
-            }
+            Formula::Bind(part) => self.binder(f, part).label_bind(before, own),
+            Formula::Some(kind, part) => self.binder(f, part).label_some(kind, before, own),
             _ => self.label_row(0, f, before, own),
         }
     }

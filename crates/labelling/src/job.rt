@@ -24,6 +24,7 @@ pub(crate) struct Job<'a, R: Readable> {
     pub(crate) log: &'a R,
     pub(crate) n: usize,
     pub(crate) table: &'a [Formula],
+    // Beside the formulas, as the table lends them: pairs would be a copy.
     pub(crate) flags: &'a [bool],
     ghost count: { n ≡ length (R.Readable.states log.now) },
     ghost lawful: { LawfulTo n (state_at (R.Readable.states log.now)) },

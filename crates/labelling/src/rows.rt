@@ -1,4 +1,5 @@
-// The labels of one formula at all states, from those of its parts. A row has one cell for each state.
+// The labels of one formula at all states, from those of its parts. A row has one cell for each state. The rows are lent to
+// each call, so that their one length stands in the clauses.
 ghost use Rattle.std.specs.Prelude.{◌≡◌, ℕ, ◌+◌, ◌*◌, ◌^◌, ◌<◌, ◌≤◌, length, IfSome, MatchOption, slice_index_or};
 ghost use Rattle.labels.specs.Readings.{Same, opened, negated, both, either, seen};
 ghost use Rattle.logic.specs.States.{Trace};
@@ -79,10 +80,7 @@ pub(crate) fn label_or<K: LabelKind + Copy>(a: &[K], b: &[K], own: &mut [K])
 fn label_at<K: LabelKind + Copy>(row: &[K], p: usize) -> K
     ensures { Same K.reach (K.reads result) (cell K.reads row.now p) }
 {
-    match row.get(p) {
-        Some(label) => *label,
-        None => K::unknown(),
-    }
+    row.get(p).copied().unwrap_or(K::unknown())
 }
 
 pub(crate) fn label_next<K: LabelKind + Copy>(a: &[K], own: &mut [K])
@@ -119,6 +117,8 @@ pub(crate) fn label_previous<K: LabelKind + Copy>(a: &[K], own: &mut [K])
     );
 }
 
+// Apart from `label_since`: this goes back from what is not known yet, that goes forward from false, and only there is the label
+// that is carried seen from each state on.
 pub(crate) fn label_until<K: LabelKind + Copy>(a: &[K], b: &[K], own: &mut [K])
     requires long { (length a.now ≡ length own.old) × (length b.now ≡ length own.old) }
     ensures told { (s : Trace) (v : ℕ) (f g : Tree) → Tells K.reads K.reach (length own.old) s v f a.now → Tells K.reads K.reach (length own.old) s v g b.now → Tells K.reads K.reach (length own.old) s v (until f g) own.new }
@@ -136,6 +136,7 @@ pub(crate) fn label_since<K: LabelKind + Copy>(a: &[K], b: &[K], own: &mut [K])
     ensures told { (s : Trace) (v : ℕ) (f g : Tree) → Tells K.reads K.reach (length own.old) s v f a.now → Tells K.reads K.reach (length own.old) s v g b.now → Tells K.reads K.reach (length own.old) s v (since f g) own.new }
 {
     let mut carried = K::false_from(1);
+    // By place in a and b: after a loop over `iter_mut().zip(..)` nothing is known of the cells.
     for (p, cell) in own.iter_mut().enumerate() {
         carried = b[p].or(a[p].and(carried.seen_from(p + 1)));
         *cell = carried;
@@ -147,10 +148,7 @@ fn label_in<K: LabelKind + Copy>(row: &[K], state: Option<usize>) -> K
     requires { IfSome state (λ i. (1 ≤ i) × (i ≤ length row.now)) }
     ensures { MatchOption state (Same K.reach (K.reads result) opened) (λ i. Same K.reach (K.reads result) (at K.reads row.now i)) }
 {
-    match state {
-        Some(i) => row[i - 1],
-        None => K::unknown(),
-    }
+    state.map_or(K::unknown(), |i| row[i - 1])
 }
 
 // Labels `at`: the label at the state that carries the nominal, as each state sees it; unknown where none carries it.

@@ -25,21 +25,8 @@ fn want_parts(formula: Formula, f: usize, flags: &[bool], wanted: &mut [bool])
     ensures grown { Grown f flags.now wanted.old wanted.new }
     ensures ready { EachPart (Wanted flags.now wanted.new) formula }
 {
-    match formula {
-        Formula::Not(a) | Formula::Next(a) | Formula::Previous(a) | Formula::At(_, a) => {
-            want(a, flags, wanted);
-        }
-        Formula::And(a, b) | Formula::Or(a, b) | Formula::Until(a, b) | Formula::Since(a, b) => {
-            want(a, flags, wanted);
-            want(b, flags, wanted);
-        }
-        Formula::True
-        | Formula::Signal(_)
-        | Formula::Nominal(_)
-        | Formula::Variable
-        | Formula::Reference(_)
-        | Formula::Bind(_)
-        | Formula::Some(_, _) => {}
+    for part in formula.parts().into_iter().flatten() {
+        want(part, flags, wanted);
     }
 }
 

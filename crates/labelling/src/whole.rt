@@ -6,7 +6,7 @@ ghost use Rattle.labelling.specs.Bound.{Published};
 ghost use Rattle.labelling.specs.Whole.{LabelOf, Labelled, place, Answered};
 
 use crate::job::Job;
-use crate::rows::{clear, row_of};
+use crate::rows::clear;
 use labels::LabelKind;
 use lawful::first_unlawful;
 use records::readable::Readable;
@@ -20,12 +20,11 @@ impl<'a, R: Readable> Job<'a, R> {
         ensures { Published K.reads K.reach self.now.n self.now.flags.now work.now cells.new (length self.now.table.now) }
     {
         let n = self.n;
+        cells.copy_from_slice(work);
+        // By number: the row of formula f is found by it; `chunks_mut` takes no width of 0, which a record without states has.
         for (f, loose) in self.flags.iter().enumerate() {
-            let own = &mut cells[f * n..f * n + n];
             if *loose {
-                clear(own);
-            } else {
-                own.copy_from_slice(row_of(n, f, work));
+                clear(&mut cells[f * n..f * n + n]);
             }
         }
     }
@@ -71,9 +70,7 @@ pub fn label_whole<K: LabelKind + Copy, R: Readable>(
     if labels.len() < total || work.len() < total {
         return Err(Refusal::MemoryTooShort);
     }
-    if let Some(refusal) = first_unlawful(log) {
-        return Err(refusal);
-    }
+    first_unlawful(log)?;
     let job = Job {
         log,
         n,

@@ -7,7 +7,7 @@ use Rattle.std.proofs.lemmas.Bool.{both_ways, cases_lt, lt-ltb, le-ltb, cond-tru
 use Rattle.labels.specs.Readings.{Reading, Same, DateOf, seen}
 use Rattle.labels.specs.Dated.{dated, limited_to}
 
-lt_true : (a b : ℤ) → a <ℤ b → lt_z a b ≡ true
+pub lt_true : (a b : ℤ) → a <ℤ b → lt_z a b ≡ true
 lt_true a b h = grind (arith, ints)
 
 le_false : (a b : ℤ) → b <ℤ a → le_z a b ≡ false

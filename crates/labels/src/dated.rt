@@ -72,6 +72,7 @@ impl LabelKind for Dated {
         if point > REACH {
             return weak;
         }
+        // A cast, which keeps the number: the point is at most 256.
         let point = point as i16;
         if weak {
             point < self.value + 257
@@ -90,7 +91,7 @@ impl Dated {
     }
 
     // The point from which the label is true, or 0 if it is true at none, since a date is defined as a number. The casts keep
-    // theirs, and a conversion would add a failure that never comes.
+    // their numbers, and a conversion would add a failure that never comes.
     pub fn date_of_truth(self) -> usize
         ensures ever { pos 0 <ℤ self.value → pos result +ℤ self.value ≡ pos 257 }
         ensures never { self.value ≤ℤ pos 0 → result ≡ 0 }
@@ -136,5 +137,6 @@ fn limited(value: i16, i: usize) -> i16
 fn date(i: usize) -> i16
     ensures { result ≡ pos (min 256 (257 - i)) }
 {
+    // A cast, which keeps the number: it is at most 256.
     257usize.saturating_sub(i).min(256) as i16
 }

@@ -1,7 +1,7 @@
 // Whether the states of a record are lawful: no nominal above 0 stands on two states, and every reference is to an earlier one.
 #![tactic(auto)]
 
-ghost use Rattle.std.specs.Prelude.{◌≡◌, ℕ, ◌+◌, ◌<◌, ◌≤◌, true, false, ◌⊎◌, List, [], ◌∷◌, ◌++◌, length, Decides, MatchOption, slice_index_or};
+ghost use Rattle.std.specs.Prelude.{◌≡◌, ℕ, ◌+◌, ◌<◌, ◌≤◌, true, false, ◌⊎◌, List, [], ◌∷◌, ◌++◌, length, Decides, MatchResult, slice_index_or};
 ghost use Rattle.logic.specs.States.{state_at};
 ghost use Rattle.logic.specs.declared.types.State.{State};
 ghost use Rattle.logic.specs.Lawful.{Unfit, NominalTaken, ReferenceUnfit, LawfulRecord};
@@ -37,9 +37,10 @@ fn was_seen(nominal: usize, seen: &[bool]) -> bool
     nominal > 0 && seen[nominal]
 }
 
-// The first state that may not stand in a lawful trace, with the reason; the nominal goes before the references.
-pub fn first_unlawful<R: Readable>(log: &R) -> Option<Refusal>
-    ensures { MatchOption result (LawfulRecord (R.states log.now)) (λ u. FirstUnlawful (R.states log.now) u) }
+// Refuses a record that is not lawful, for its first state that may not stand in a lawful trace; the nominal goes before the
+// references.
+pub fn first_unlawful<R: Readable>(log: &R) -> Result<(), Refusal>
+    ensures { MatchResult result (λ _. LawfulRecord (R.states log.now)) (λ u. FirstUnlawful (R.states log.now) u) }
 {
     // One flag for each nominal: fixed memory, for there is no heap.
     let mut seen = [false; 256];
@@ -47,14 +48,14 @@ pub fn first_unlawful<R: Readable>(log: &R) -> Option<Refusal>
         let state = log.state(i);
         let nominal = usize::from(state.nominal);
         if was_seen(nominal, &seen) {
-            return Some(Refusal::NominalTaken(i));
+            return Err(Refusal::NominalTaken(i));
         }
         if has_unfit(state, i) {
-            return Some(Refusal::ReferenceUnfit(i));
+            return Err(Refusal::ReferenceUnfit(i));
         }
         seen[nominal] = true;
     }
-    None
+    Ok(())
 }
 
 // Whether the nominal of a state stands on a state of the record.
@@ -64,19 +65,19 @@ fn is_taken<R: Readable>(log: &R, state: State) -> bool
     state.nominal > 0 && (1..=log.count()).any(|i| log.state(i).nominal == state.nominal)
 }
 
-// Why a state may not follow those of a record, if there is a reason; a record of 256 states is not continued.
-pub fn next_unlawful<R: Readable>(log: &R, state: State) -> Option<Refusal>
-    ensures { MatchOption result (MayFollow (R.states log.now) state) (λ u. MayNotFollow (R.states log.now) state u) }
+// Refuses a state that may not follow those of a record; a record of 256 states is not continued.
+pub fn next_unlawful<R: Readable>(log: &R, state: State) -> Result<(), Refusal>
+    ensures { MatchResult result (λ _. MayFollow (R.states log.now) state) (λ u. MayNotFollow (R.states log.now) state u) }
 {
     let n = log.count();
     if n >= 256 {
-        return Some(Refusal::TooManyStates);
+        return Err(Refusal::TooManyStates);
     }
     if is_taken(log, state) {
-        return Some(Refusal::NominalTaken(n + 1));
+        return Err(Refusal::NominalTaken(n + 1));
     }
     if has_unfit(state, n + 1) {
-        return Some(Refusal::ReferenceUnfit(n + 1));
+        return Err(Refusal::ReferenceUnfit(n + 1));
     }
-    None
+    Ok(())
 }

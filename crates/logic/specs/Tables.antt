@@ -1,5 +1,5 @@
 -- Tables of formulas: a formula's parts are given by their numbers in the table.
-use Rattle.std.specs.Prelude.{◌≡◌, ℕ, zero, suc, ◌<◌, ◌≤◌, Bool, true, false, ◌||◌, List, length, slice_index_or}
+use Rattle.std.specs.Prelude.{◌≡◌, ℕ, zero, suc, ◌<◌, ◌≤◌, Bool, true, false, ◌||◌, List, [], ◌∷◌, length, slice_index_or}
 use Rattle.logic.specs.Logic.{Tree, true', signal, nominal, not', and', or', next, previous, until, since, at', variable, reference, bind, some', is_loose}
 use Rattle.logic.specs.declared.types.Formula.{Formula}
 use Rattle.logic.specs.declared.types.Formula.TheVariants.{True, Signal, Nominal, Not, And, Or, Next, Previous, Until, Since, At, Variable, Reference, Bind, Some}
@@ -21,6 +21,24 @@ node Variable part = variable
 node (Reference a) part = reference a
 node (Bind f) part = bind (part f)
 node (Some a f) part = some' a (part f)
+
+-- the numbers of a formula's parts
+abbrev pub parts_of : Formula → List ℕ
+parts_of True = []
+parts_of (Signal b) = []
+parts_of (Nominal a) = []
+parts_of (Not f) = f ∷ []
+parts_of (And f g) = f ∷ g ∷ []
+parts_of (Or f g) = f ∷ g ∷ []
+parts_of (Next f) = f ∷ []
+parts_of (Previous f) = f ∷ []
+parts_of (Until f g) = f ∷ g ∷ []
+parts_of (Since f g) = f ∷ g ∷ []
+parts_of (At a f) = f ∷ []
+parts_of Variable = []
+parts_of (Reference a) = []
+parts_of (Bind f) = f ∷ []
+parts_of (Some a f) = f ∷ []
 
 -- P of each part of a formula
 abbrev pub EachPart : (ℕ → Type 0) → Formula → Type 0

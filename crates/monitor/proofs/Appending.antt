@@ -1,5 +1,5 @@
 -- What an append is refused for, and what it leaves. Assumes nothing.
-use Rattle.std.proofs.Common.{◌≡◌, ℕ, ◌+◌, ◌<◌, ◌≤◌, Bool, true, false, cond, eqb, List, [], ◌∷◌, ◌++◌, length, Some, None, Ok, Err, Option, Result, sym, refl, ap, ◌∙◌, subst, ⊎_elim, arith, length-append, MatchOption}
+use Rattle.std.proofs.Common.{◌≡◌, ℕ, ◌+◌, ◌<◌, ◌≤◌, Bool, true, false, cond, eqb, List, [], ◌∷◌, ◌++◌, length, Some, None, Ok, Err, Option, Result, sym, refl, ap, ◌∙◌, subst, ⊎_elim, arith, length-append, MatchResult}
 use Rattle.std.proofs.lemmas.Bool.{eq-eqb, eqb-true, lt-leb, cond-true, cond-false, cases_Bool}
 use Rattle.logic.specs.declared.types.State.{State}
 use Rattle.records.specs.Growth.{Appended}
@@ -45,9 +45,10 @@ module _ (own : ℕ) (G : Ground) (xs : List State) (x : State) (mine : own ≡ 
     refused_some refusal.NoSuchState h = absurd h
     refused_some refusal.NoSuchPoint h = absurd h
 
-    pub refused_next : (o : Option Refusal) → MatchOption o (MayFollow xs x) (λ why. MayNotFollow xs x why) → o ≡ refused_by own G xs (Append x)
-    refused_next None h = sym (fit_takes G xs x h roomy) ∙ own_refusal
-    refused_next (Some why) h = refused_some why h
+    pub refused_next : (r : Result (Unit {0}) Refusal) → MatchResult r (λ _. MayFollow xs x) (λ why. MayNotFollow xs x why)
+        → MatchResult r (λ _. refused_by own G xs (Append x) ≡ None) (λ why. refused_by own G xs (Append x) ≡ Some why)
+    refused_next (Ok u) h = sym (sym (fit_takes G xs x h roomy) ∙ own_refusal)
+    refused_next (Err why) h = sym (refused_some why h)
 
 -- an append that no refusal fits
 module _ (own : ℕ) (G : Ground) (xs : List State) (x : State) (free : refused_by own G xs (Append x) ≡ None) where

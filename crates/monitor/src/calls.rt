@@ -153,7 +153,7 @@ impl<R: Growing> Monitor<R> {
         if n >= self.log.capacity() {
             return Err(Refusal::RecordFull);
         }
-        next_unlawful(&self.log, state).map_or(Ok(()), Err)
+        next_unlawful(&self.log, state)
     }
 
     // Appends a state and answers its number: labels the record and counts the tallies again. A refusal changes nothing.

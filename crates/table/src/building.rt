@@ -35,22 +35,7 @@ fn in_range(formula: Formula) -> bool
 fn parts_below(formula: Formula, n: usize) -> bool
     ensures { Decides result (EachPart (λ g. g < n) formula) }
 {
-    match formula {
-        Formula::And(a, b) | Formula::Or(a, b) | Formula::Until(a, b) | Formula::Since(a, b) => {
-            a < n && b < n
-        }
-        Formula::Not(a)
-        | Formula::Next(a)
-        | Formula::Previous(a)
-        | Formula::At(_, a)
-        | Formula::Bind(a)
-        | Formula::Some(_, a) => a < n,
-        Formula::True
-        | Formula::Signal(_)
-        | Formula::Nominal(_)
-        | Formula::Variable
-        | Formula::Reference(_) => true,
-    }
+    formula.parts().into_iter().flatten().all(|part| part < n)
 }
 
 // Whether a formula is loose, from the flags of its parts.
@@ -59,15 +44,13 @@ fn is_loose(formula: Formula, flags: &[bool]) -> bool
     ensures { result ≡ loose_by formula (λ g. slice_index_or flags.now g false) }
 {
     match formula {
-        Formula::And(a, b) | Formula::Or(a, b) | Formula::Until(a, b) | Formula::Since(a, b) =>
-            flags[a] || flags[b],
-        Formula::Not(a) | Formula::Next(a) | Formula::Previous(a) | Formula::At(_, a) => flags[a],
         Formula::Variable | Formula::Reference(_) => true,
-        Formula::True
-        | Formula::Signal(_)
-        | Formula::Nominal(_)
-        | Formula::Bind(_)
-        | Formula::Some(_, _) => false,
+        Formula::Bind(_) | Formula::Some(_, _) => false,
+        _ => formula
+            .parts()
+            .into_iter()
+            .flatten()
+            .any(|part| flags[part]),
     }
 }
 

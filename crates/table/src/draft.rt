@@ -5,7 +5,8 @@ ghost use Rattle.table.specs.Order.{EachRuled, OrderlyTable-prop};
 use logic::types::{Formula, Rule};
 
 // A table under construction: up to 64 formulas, of which each is flagged if it is loose, and up to 16 rules. The memory is
-// fixed, without a heap. The flags stand beside the formulas, since callers are lent each as a slice of its own.
+// fixed, without a heap. Flags beside the formulas: a list of pairs would lend no slice of formulas, which labelling takes, and
+// is no plainer.
 #[derive(Drop, Clone, Copy)]
 pub struct Draft {
     pub(crate) formulas: [Formula; 64],

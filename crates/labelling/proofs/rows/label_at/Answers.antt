@@ -1,11 +1,15 @@
-use Rattle.std.proofs.Common.{sym, ◌∙◌}
+use Rattle.std.proofs.Common.{◌≡◌, ℕ, ◌<◌, ◌≤◌, Bor, List, length, Option, None, Some, MatchOption, rules, sym, ap, ◌∙◌}
+use Rattle.std.specs.List.{HoldsAt}
+use Rattle.labels.specs.Readings.{Reading, Same, opened}
+use Rattle.labelling.specs.Rows.{cell}
 use Rattle.labelling.proofs.Cells.{cell_read, cell_past}
 use Rattle.labelling.proofs.rows.label_at.Goals as goal
 
-pub returns-in-Some : goal.returns-in-Some
-returns-in-Some g c e k lo hi =
-    let l = c.in-Some.ensures.lookup in
-    sym (cell_read g.K.LabelKind.reads c.args.row.now c.args.p c.in-Some.label.now l.3.0 l.1 e k)
+read_by : {K : Type 0} (reads : K → Reading) (reach : ℕ) (row : List K) (p : ℕ) (there : Option (Bor K)) (unknown x : K) → Same reach (reads unknown) opened
+    → MatchOption there (length row ≤ p) (λ y. (p < length row) × HoldsAt (λ z. y.now ≡ z) row p) → MatchOption there (x ≡ unknown) (λ y. x ≡ y.now) → Same reach (reads x) (cell reads row p)
+read_by reads reach row p None unknown x none past is e k lo hi = ap (λ z. reads z e k) is ∙ none e k lo hi ∙ sym (cell_past reads row p e k past)
+read_by reads reach row p (Some y) unknown x none here is e k lo hi = sym (cell_read reads row p x here.0 (is ∙ here.1 x) e k)
 
-pub returns-in-None : goal.returns-in-None
-returns-in-None g c e k lo hi = c.unknown.ensures e k lo hi ∙ sym (cell_past g.K.LabelKind.reads c.args.row.now c.args.p e k c.in-None.ensures.lookup.3)
+pub returns : goal.returns
+returns g c =
+    read_by g.K.LabelKind.reads g.K.LabelKind.reach c.args.row.now c.args.p c.get.result c.unknown.result c.unwrap_or.result c.unknown.ensures c.get.ensures.lookup.3 (search rules)

@@ -1,6 +1,9 @@
-use Rattle.std.proofs.Common.{get_or}
+use Rattle.std.proofs.Common.{get_or, sym, subst}
 use Rattle.logic.specs.States.{state_at}
+use Rattle.logic.specs.Logic.{bind, some'}
 use Rattle.logic.specs.Tables.{tree, loose}
+use Rattle.labelling.specs.Bound.{ClosedTold}
+use Rattle.labelling.specs.Tells.{Tells}
 use Rattle.logic.specs.declared.types.Formula.TheVariants as op
 use Rattle.labelling.proofs.Nodes.{tells_node}
 use Rattle.labelling.proofs.Bounds.{closed_ready, not_binder}
@@ -18,26 +21,52 @@ label_row-requires g c =
       parts = closed_ready g.K.LabelKind.reads g.K.LabelKind.reach job.n (state_at (g.R.Readable.states job.log.now)) table job.orderly c.args.f c.requires.fit.0 c.args.before.now plain c.requires.fit.1 c.requires.known 0;
     }
 
+pub label_bind-requires-clause-known : goal.label_bind-requires-clause-known
+label_bind-requires-clause-known g c =
+    let k = g.K.LabelKind in
+    let e = c.binder.ensures in
+    let xs = c.args.before.now in
+    subst (λ j. ClosedTold k.reads k.reach j.n (state_at (g.R.Readable.states j.log.now)) j.table.now xs c.binder.result.f) (sym e.0)
+    (subst (λ f. ClosedTold k.reads k.reach c.args.self.now.n (state_at (g.R.Readable.states c.args.self.now.log.now)) c.args.self.now.table.now xs f) (sym e.1) c.requires.known)
+
 pub returns-in-Bind : goal.returns-in-Bind
 returns-in-Bind g c =
     let k = g.K.LabelKind in
     let job = c.args.self.now in
+    let e = c.binder.ensures in
+    let xs = c.label_bind.new.before in
     record {
-      known = c.label_bind.ensures.known;
+      known =
+          subst (λ f. ClosedTold k.reads k.reach job.n (state_at (g.R.Readable.states job.log.now)) job.table.now xs f) e.1
+          (subst (λ j. ClosedTold k.reads k.reach j.n (state_at (g.R.Readable.states j.log.now)) j.table.now xs c.binder.result.f) e.0 c.label_bind.ensures.known);
       told = λ v.
           tells_node job.table.now job.orderly c.args.f c.requires.fit.0 (op.Bind c.in-Bind.part) c.in-Bind.is k.reads k.reach job.n (state_at (g.R.Readable.states job.log.now)) v c.label_bind.new.own
-          (c.label_bind.ensures.told v);
+          (subst (λ p. Tells k.reads k.reach job.n (state_at (g.R.Readable.states job.log.now)) v (bind (tree job.table.now p)) c.label_bind.new.own) e.2
+          (subst (λ j. Tells k.reads k.reach j.n (state_at (g.R.Readable.states j.log.now)) v (bind (tree j.table.now c.binder.result.part)) c.label_bind.new.own) e.0 (c.label_bind.ensures.told v)));
     }
+
+pub label_some-requires-clause-known : goal.label_some-requires-clause-known
+label_some-requires-clause-known g c =
+    let k = g.K.LabelKind in
+    let e = c.binder-in-Some.ensures in
+    let xs = c.args.before.now in
+    subst (λ j. ClosedTold k.reads k.reach j.n (state_at (g.R.Readable.states j.log.now)) j.table.now xs c.binder-in-Some.result.f) (sym e.0)
+    (subst (λ f. ClosedTold k.reads k.reach c.args.self.now.n (state_at (g.R.Readable.states c.args.self.now.log.now)) c.args.self.now.table.now xs f) (sym e.1) c.requires.known)
 
 pub returns-in-Some : goal.returns-in-Some
 returns-in-Some g c =
     let k = g.K.LabelKind in
     let job = c.args.self.now in
+    let e = c.binder-in-Some.ensures in
+    let xs = c.label_some.new.before in
     record {
-      known = c.label_some.ensures.known;
+      known =
+          subst (λ f. ClosedTold k.reads k.reach job.n (state_at (g.R.Readable.states job.log.now)) job.table.now xs f) e.1
+          (subst (λ j. ClosedTold k.reads k.reach j.n (state_at (g.R.Readable.states j.log.now)) j.table.now xs c.binder-in-Some.result.f) e.0 c.label_some.ensures.known);
       told = λ v.
           tells_node job.table.now job.orderly c.args.f c.requires.fit.0 (op.Some c.in-Some.kind c.in-Some.part) c.in-Some.is k.reads k.reach job.n (state_at (g.R.Readable.states job.log.now)) v c.label_some.new.own
-          (c.label_some.ensures.told v);
+          (subst (λ p. Tells k.reads k.reach job.n (state_at (g.R.Readable.states job.log.now)) v (some' c.in-Some.kind (tree job.table.now p)) c.label_some.new.own) e.2
+          (subst (λ j. Tells k.reads k.reach j.n (state_at (g.R.Readable.states j.log.now)) v (some' c.in-Some.kind (tree j.table.now c.binder-in-Some.result.part)) c.label_some.new.own) e.0 (c.label_some.ensures.told v)));
     }
 
 pub returns-in_default : goal.returns-in_default
