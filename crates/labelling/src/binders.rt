@@ -36,9 +36,8 @@ impl<'a, R: Readable> Binder<'a, R> {
         ensures told { AllTold K.reads K.reach self.now.job.now.n (state_at (R.states self.now.job.now.log.now)) self.now.job.now.table.now self.now.wanted v before.new self.now.f }
     {
         let n = self.job.n;
-        // By number: g is a formula, whose row is split off by it.
-        for g in 0..self.f {
-            if self.wanted[g] {
+        for (g, wanted) in self.wanted[..self.f].iter().enumerate() {
+            if *wanted {
                 let (low, rest) = before.split_at_mut(g * n);
                 self.job.label_row(v, g, low, &mut rest[..n]);
             }
