@@ -1,4 +1,4 @@
-use Rattle.std.proofs.Common.{refl, subst}
+use Rattle.std.proofs.Common.{refl, subst, rules}
 use Rattle.std.specs.Fn.{FnOnceReturns}
 use Rattle.fields.proofs.lines.read_line.Goals as goal
 
@@ -13,6 +13,6 @@ returns g c =
           first = c.in_ok-line.ensures;
           says = record { shown = c.in_ok-shown.shown; formed = (c.in_ok-line.line, formed, refl); ranged = ranged };
         },
-        c.bytes_of.ensures,
+        search rules,
       );
     }
