@@ -6,4 +6,3 @@ pub mod Order
 pub mod Once
 pub mod Standings
 pub mod Stays
-pub mod Apart

@@ -1,11 +1,8 @@
 -- What happens at a point stands once among its notices.
-use Rattle.std.proofs.Common.{◌≡◌, ℕ, ◌<◌, ⊎_elim, arith}
+use Rattle.std.proofs.Common.{◌≡◌, ◌<◌, ⊎_elim, arith}
 use Rattle.std.proofs.lemmas.Bool.{cases_order}
-use Rattle.expectations.specs.declared.types.Label.{Label}
-use Rattle.expectations.specs.declared.types.Event.{Event}
-use Rattle.expectations.specs.declared.types.Event.TheVariants.{Raising, Fulfilling, Violating}
 use Rattle.expectations.specs.declared.types.Notice.{Notice}
-use Rattle.expectations.specs.Laws.{DatedAt, Before, HappensOnce, HasOneDate}
+use Rattle.expectations.specs.Laws.{Before, HappensOnce}
 use Rattle.expectations.proofs.Told.{told_happens, happens_told}
 use Rattle.expectations.proofs.Order.{notices_in_order}
 
@@ -26,11 +23,3 @@ happens_once n labels rules o x c l = (
   )),
   (λ no k e. no (told_happens labels c n rules x k l e)),
 )
-
-one_date : (e : Event) (z : Label) (s c d : ℕ) → DatedAt e z s c → DatedAt e z s d → c ≡ d
-one_date Raising z s c d h k = cc
-one_date Fulfilling z s c d h k = cc
-one_date Violating z s c d h k = cc
-
-pub has_one_date : HasOneDate
-has_one_date n labels rules x c d h k = one_date x.event _ x.from c d h.4 k.4

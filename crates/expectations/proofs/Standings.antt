@@ -1,17 +1,14 @@
--- What a standing means, and that decisions last.
-use Rattle.std.proofs.Common.{◌≡◌, ℕ, ◌≤◌, Bool, true, false, cond, leb, ◌⊎◌, refl, ◌∙◌, subst, inl, inr, ⊎_elim, arith}
+-- What a standing means.
+use Rattle.std.proofs.Common.{◌≡◌, ℕ, ◌≤◌, true, leb, ◌⊎◌, refl, ◌∙◌, subst, inl, inr, ⊎_elim, arith}
 use Rattle.std.proofs.lemmas.Bool.{leb-true, leb-false, le-leb, cases_Bool, cond-true, cond-false, cond_both, both_ways}
 use Rattle.logic.specs.declared.types.Rule.{Rule}
 use Rattle.expectations.specs.declared.types.Label.{Label}
 use Rattle.expectations.specs.declared.types.Label.TheVariants.{Unknown, TrueFrom, FalseFrom}
-use Rattle.expectations.specs.declared.types.Verdict.TheVariants as is
 use Rattle.expectations.specs.declared.types.Standing.{Standing}
 use Rattle.expectations.specs.declared.types.Standing.TheVariants.{NotRaised, Pending, Fulfilled, Violated}
-use Rattle.expectations.specs.Expectations.{Labels, verdict, raises, judged, standing}
-use Rattle.expectations.specs.Laws.{Raises, StandsAs, StandingsMean, DecisionsLast}
+use Rattle.expectations.specs.Expectations.{Labels, raises, judged, standing}
+use Rattle.expectations.specs.Laws.{Raises, StandsAs, StandingsMean}
 use Rattle.expectations.proofs.Labels.{true_is, is_true}
-
--- ── What a standing means ──
 
 -- StandsAs of a raised expectation, by the label of its content
 abbrev JudgedAs : Label → (c : ℕ) → Standing → Type 0
@@ -68,31 +65,3 @@ module _ (labels : Labels) (r : Rule) (s c : ℕ) where
 
 pub standings_mean_lem : StandingsMean
 standings_mean_lem labels r s c x = ((λ e. subst (StandsAs labels r s c) e (stands_as labels r s c)), standing_is labels r s c x)
-
--- ── Decisions last ──
-late : {X : Type 0} (a b : X) (d c e : ℕ) → c ≤ e → (cond (leb d c) a b ≡ b → ⊥) → cond (leb d e) a b ≡ cond (leb d c) a b
-late a b d c e l h =
-    ⊎_elim
-    (λ (t : leb d c ≡ true). let u : leb d e ≡ true = le-leb d e (omega (arith, leb-true d c t)) in rw (t, u))
-    (λ (f : leb d c ≡ false). absurd (h (cond-false (leb d c) a b f)))
-    (cases_Bool (leb d c))
-
-verdict_lasts : (z : Label) (c e : ℕ) → c ≤ e → (verdict z c ≡ is.Unknown → ⊥) → verdict z e ≡ verdict z c
-verdict_lasts Unknown c e l h = refl
-verdict_lasts (TrueFrom d) c e l h = late is.True is.Unknown d c e l h
-verdict_lasts (FalseFrom d) c e l h = late is.False is.Unknown d c e l h
-
-judged_lasts : (z : Label) (c e : ℕ) → c ≤ e → (judged z c ≡ Pending → ⊥) → judged z e ≡ judged z c
-judged_lasts Unknown c e l h = refl
-judged_lasts (TrueFrom d) c e l h = late (Fulfilled d) Pending d c e l h
-judged_lasts (FalseFrom d) c e l h = late (Violated d) Pending d c e l h
-
-standing_lasts : (b : Bool) (z : Label) (c e : ℕ) → c ≤ e → (cond b (judged z c) NotRaised ≡ Pending → ⊥) → cond b (judged z e) NotRaised ≡ cond b (judged z c) NotRaised
-standing_lasts true z c e l h = judged_lasts z c e l h
-standing_lasts false z c e l h = refl
-
-pub decisions_last_lem : DecisionsLast
-decisions_last_lem c e l = (
-  (λ z h. verdict_lasts z c e l h),
-  (λ labels r s h. standing_lasts (raises labels r s) (labels r.content s) c e l h),
-)

@@ -5,7 +5,7 @@ use Rattle.logic.specs.declared.types.Rule.{Rule}
 use Rattle.expectations.specs.declared.types.Label.{Label}
 use Rattle.expectations.specs.declared.types.Label.TheVariants.{Unknown, TrueFrom, FalseFrom}
 use Rattle.expectations.specs.Expectations.{Labels, verdict, raises, true_from, false_from, judged, standing, of_state, from_state, from_rule}
-use Rattle.expectations.specs.Laws.{Grown, Grows, VerdictsStay, StandingsStay, NoticesStay}
+use Rattle.expectations.specs.Laws.{Grown, Grows, StandingsStay, NoticesStay}
 
 -- what takes a verdict dated after n for unknown does not change when a label grows
 grown_same : {X : Type 0} (F : Label → X) (n : ℕ) (old new : Label) → Grown n old new → F (TrueFrom (suc n)) ≡ F Unknown → F (FalseFrom (suc n)) ≡ F Unknown → F new ≡ F old
@@ -59,9 +59,6 @@ module _ (n : ℕ) (old new : Labels) (g : Grows n old new) where
   from_rule_same : (c k : ℕ) (rs : List Rule) → c ≤ n → from_rule new c k rs ≡ from_rule old c k rs
   from_rule_same c k [] h = refl
   from_rule_same c k (r ∷ rs) h = ap₂ ◌++◌ (from_state_same c k r c 1 (omega arith) (omega arith) h) (from_rule_same c (suc k) rs h)
-
-pub verdicts_stay_lem : VerdictsStay
-verdicts_stay_lem n old new g f i c a b h = verdict_same n (old f i) (new f i) (g f i a b) c h
 
 pub standings_stay_lem : StandingsStay
 standings_stay_lem n old new g r s c a b h = standing_same n old new g r s c a b h

@@ -1,5 +1,4 @@
-use Rattle.std.proofs.Common.{sym, ◌∙◌}
-use Rattle.fields.proofs.Shown.{whole, done, next, later, over, missing, missing_word}
+use Rattle.fields.proofs.Shown.{later, over, missing, missing_word}
 use Rattle.rulelines.proofs.Showing.{no_formula}
 use Rattle.rulelines.proofs.entries.entry_of.Goals as goal
 
@@ -18,9 +17,3 @@ returns-in_err-b c =
 pub returns-then-not-is_at_end : goal.returns-then-not-is_at_end
 returns-then-not-is_at_end c =
     no_formula _ c.args.line.now c.of-fields.ensures (λ v f. later c.in_ok-number.ensures.read.took (later c.in_ok-operator.ensures.read (later c.in_ok-a.ensures.read.took (later c.in_ok-b.ensures.read.took (over (λ e. let b = c.is_at_end.ensures.1 e in cc (b, c.if-not-is_at_end.true)))))))
-
-pub returns : goal.returns
-returns c = (
-  record { number = c.in_ok-number.ensures.read.small; a = c.in_ok-a.ensures.read.small; b = c.in_ok-b.ensures.read.small },
-  sym c.of-fields.ensures ∙ whole (next c.in_ok-number.ensures.read.took (next c.in_ok-operator.ensures.read (next c.in_ok-a.ensures.read.took (next c.in_ok-b.ensures.read.took (done (c.is_at_end.ensures.0 c.if-not-is_at_end.false)))))),
-)

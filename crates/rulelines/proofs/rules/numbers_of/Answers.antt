@@ -1,5 +1,4 @@
-use Rattle.std.proofs.Common.{sym, ◌∙◌}
-use Rattle.fields.proofs.Shown.{whole, done, next, later, over, missing}
+use Rattle.fields.proofs.Shown.{later, over, missing}
 use Rattle.rulelines.proofs.Showing.{no_rule_line}
 use Rattle.rulelines.proofs.rules.numbers_of.Goals as goal
 
@@ -14,9 +13,3 @@ returns-in_err-content c =
 pub returns-then-not-is_at_end : goal.returns-then-not-is_at_end
 returns-then-not-is_at_end c =
     no_rule_line _ c.args.line.now c.of-fields.ensures (λ i r f. later c.in_ok-number.ensures.read.took (later c.in_ok-condition.ensures.read.took (later c.in_ok-content.ensures.read.took (over (λ e. let b = c.is_at_end.ensures.1 e in cc (b, c.if-not-is_at_end.true))))))
-
-pub returns : goal.returns
-returns c = (
-  record { number = c.in_ok-number.ensures.read.small; condition = c.in_ok-condition.ensures.read.small; content = c.in_ok-content.ensures.read.small },
-  sym c.of-fields.ensures ∙ whole (next c.in_ok-number.ensures.read.took (next c.in_ok-condition.ensures.read.took (next c.in_ok-content.ensures.read.took (done (c.is_at_end.ensures.0 c.if-not-is_at_end.false))))),
-)

@@ -1,5 +1,4 @@
-use Rattle.std.proofs.Common.{sym, ◌∙◌}
-use Rattle.fields.proofs.Shown.{whole, done, next, later, over, missing}
+use Rattle.fields.proofs.Shown.{later, over, missing}
 use Rattle.traces.proofs.Showing.{breaks}
 use Rattle.traces.proofs.numbers.numbers_of.Goals as goal
 
@@ -36,9 +35,3 @@ returns-in_err-second_target c =
 pub returns-then-not-is_at_end : goal.returns-then-not-is_at_end
 returns-then-not-is_at_end c =
     breaks _ c.args.line.now c.of-fields.ensures (λ i q f. later c.in_ok-state.ensures.read.took (later c.in_ok-signals.ensures.read.took (later c.in_ok-nominal.ensures.read.took (later c.in_ok-first_kind.ensures.read.took (later c.in_ok-first_target.ensures.read.took (later c.in_ok-second_kind.ensures.read.took (later c.in_ok-second_target.ensures.read.took (over (λ e. let b = c.is_at_end.ensures.1 e in cc (b, c.if-not-is_at_end.true))))))))))
-
-pub returns : goal.returns
-returns c = (
-  record { number = c.in_ok-state.ensures.read.small; signals = c.in_ok-signals.ensures.read.small; nominal = c.in_ok-nominal.ensures.read.small; first_kind = c.in_ok-first_kind.ensures.read.small; first_target = c.in_ok-first_target.ensures.read.small; second_kind = c.in_ok-second_kind.ensures.read.small; second_target = c.in_ok-second_target.ensures.read.small },
-  sym c.of-fields.ensures ∙ whole (next c.in_ok-state.ensures.read.took (next c.in_ok-signals.ensures.read.took (next c.in_ok-nominal.ensures.read.took (next c.in_ok-first_kind.ensures.read.took (next c.in_ok-first_target.ensures.read.took (next c.in_ok-second_kind.ensures.read.took (next c.in_ok-second_target.ensures.read.took (done (c.is_at_end.ensures.0 c.if-not-is_at_end.false))))))))),
-)

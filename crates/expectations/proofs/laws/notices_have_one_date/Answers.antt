@@ -1,5 +1,0 @@
-use Rattle.expectations.proofs.Once.{has_one_date}
-use Rattle.expectations.proofs.laws.notices_have_one_date.Goals as goal
-
-pub returns : goal.returns
-returns c = has_one_date
