@@ -1,3 +1,2 @@
-pub mod Upto
 pub mod Seen
 pub mod Joins
