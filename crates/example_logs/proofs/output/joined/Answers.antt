@@ -1,6 +1,4 @@
 use Rattle.std.proofs.Common.{[], ◌∷◌, ◌++◌, string_bytes, ap, ◌∙◌}
-use Rattle.std.proofs.lemmas.List.{take_all}
-use Rattle.example_logs.specs.Output.{lines_text}
 use Rattle.example_logs.proofs.Joining.{text_more}
 use Rattle.example_logs.proofs.output.joined.Goals as goal
 
@@ -8,6 +6,3 @@ pub loop-line-preserved : goal.loop-line-preserved
 loop-line-preserved c =
     text_more c.args.lines.now c.loop-line.line-index _ (string_bytes c.loop-line.text) _ _ c.loop-line-test.true c.in_ok-one.ensures c.loop-line.invariant
     (c.in_ok-push_str-2.ensures.bytes ∙ ap (λ t. t ++ 10 ∷ []) (c.in_ok-push_str.ensures.bytes ∙ ap (λ t. string_bytes c.loop-line.text ++ t) c.as_str.ensures.value))
-
-pub returns : goal.returns
-returns c = c.loop-line.invariant ∙ ap lines_text (take_all c.loop-line.line-index c.args.lines.now c.loop-line-test.false)
