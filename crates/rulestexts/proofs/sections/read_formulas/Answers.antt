@@ -1,24 +1,13 @@
 use Rattle.std.proofs.Common.{◌+◌, inl, arith}
 use Rattle.std.proofs.lemmas.Result.{err_from_is_err_and}
-use Rattle.rulestexts.specs.Blocks.{at_count}
 use Rattle.faults.specs.declared.read.ReadFault.TheVariants.{Line}
-use Rattle.rulestexts.proofs.Progress.{formula_range, formulas_count, formulas_more, formulas_stop, formula_dangles}
+use Rattle.rulestexts.proofs.Progress.{formulas_more, formulas_stop, formula_dangles}
 use Rattle.rulestexts.proofs.sections.read_formulas.Goals as goal
-
-pub returns-in_err-head : goal.returns-in_err-head
-returns-in_err-head c =
-    let p = err_from_is_err_and c.from_residual.result c.from_residual.ensures.1 in
-    rw (p.1, p.2) (inl (at_count c.in_err-head.ensures))
 
 pub returns-in_err-line : goal.returns-in_err-line
 returns-in_err-line c =
     let p = err_from_is_err_and c.from_residual-in_err-line.result c.from_residual-in_err-line.ensures.1 in
     rw (p.1, p.2) (inl (formulas_stop c.args.text.now c.in_ok-head.head.value c.loop-k.k c.loop-k.rest.now c.loop-k.draft c.loop-k.invariant (omega arith) (Line _) c.in_err-line.ensures))
-
-pub join_formula-requires : goal.join_formula-requires
-join_formula-requires c =
-    let n = formulas_count c.args.text.now c.in_ok-head.head.value c.loop-k.k c.loop-k.rest.now c.loop-k.draft c.loop-k.invariant in
-    record { room = omega (arith, n, c.loop-k.invariant.few); range = formula_range _ c.loop-k.k c.in_ok-line.line.value c.in_ok-line.line.used c.in_ok-line.ensures }
 
 pub returns-in_err-join_formula : goal.returns-in_err-join_formula
 returns-in_err-join_formula c =
