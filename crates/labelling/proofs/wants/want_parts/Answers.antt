@@ -1,4 +1,4 @@
-use Rattle.std.proofs.Common.{◌<◌, ◌∙◌, length, inl, ap, refl, arith}
+use Rattle.std.proofs.Common.{◌<◌, ◌∙◌, length, ap, arith}
 use Rattle.std.proofs.lemmas.Iterator.Consumers.{YieldsList-at}
 use Rattle.std.proofs.lemmas.List.Elements.{All-push}
 use Rattle.std.specs.Array.Iter.{array_into_iter_items}
@@ -7,9 +7,6 @@ use Rattle.logic.proofs.Rows.{each_map}
 use Rattle.labelling.specs.Bound.{Wanted}
 use Rattle.labelling.proofs.Cones.{grown_more, wanted_grown}
 use Rattle.labelling.proofs.wants.want_parts.Goals as goal
-
-pub loop-part-init : goal.loop-part-init
-loop-part-init c = ((λ k. ((λ h. h), (λ h. refl), (λ h. inl h))), (λ k d less. absurd (omega arith)))
 
 pub want-requires : goal.want-requires
 want-requires c =

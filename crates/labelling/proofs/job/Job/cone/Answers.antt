@@ -2,7 +2,7 @@ use Rattle.std.proofs.Common.{◌≡◌, ℕ, ◌-◌, ◌<◌, ◌≤◌, false
 use lib.ListN.{get_or-replicate, length-replicate}
 use Rattle.std.proofs.lemmas.Bool.{cases_lt}
 use Rattle.std.proofs.lemmas.List.{get_or_past}
-use Rattle.labelling.proofs.Cones.{cone_start, cone_plain, cone_turn, cone_skip, cone_end}
+use Rattle.labelling.proofs.Cones.{cone_start, cone_plain, cone_turn, cone_skip}
 use Rattle.labelling.proofs.job.Job.cone.Goals as goal
 
 none_wanted : (k : ℕ) → get_or (replicate 64 false) k false ≡ false
@@ -34,9 +34,3 @@ pub loop-g-preserved : goal.loop-g-preserved
 loop-g-preserved g c =
     let job = c.args.self.now in
     cone_skip job.table.now job.orderly job.flags.now job.flagged c.args.a c.requires c.loop-g.wanted c.loop-g.g (c.loop-g.g - 1) (omega arith) c.if-wanted-g.false c.loop-g.invariant
-
-pub returns : goal.returns
-returns g c =
-    let job = c.args.self.now in
-    let h = cone_end job.table.now job.orderly job.flags.now job.flagged c.args.a c.requires c.loop-g.wanted c.loop-g.g (omega arith) c.loop-g.invariant in
-    record { cone = h.0; ready = h.1 }

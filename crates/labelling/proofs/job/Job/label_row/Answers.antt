@@ -4,7 +4,6 @@ use Rattle.logic.specs.Lawful.{LawfulTo}
 use Rattle.logic.specs.Tables.{tree}
 use Rattle.logic.specs.declared.types.Formula.TheVariants as op
 use Rattle.labelling.specs.Tells.{Tells, NamedState}
-use Rattle.labelling.proofs.Leaves.{leaf_rest}
 use Rattle.labelling.proofs.Nodes.{row_below, parts_below, tells_node, told_node}
 use Rattle.labelling.proofs.Places.{length_row}
 use Rattle.labelling.proofs.job.Job.label_row.Goals as goal
@@ -127,15 +126,6 @@ returns-in-At g c =
     record {
       told = told_node table job.orderly c.args.f c.requires.fit.0 (op.At c.in-At.nominal c.in-At.a) c.in-At.is k.reads k.reach (length own) job.n c.requires.room.1 s c.args.v c.args.before.now c.label_named.new.own c.requires.parts
           (λ t. c.label_named.ensures.told s c.args.v c.in-At.nominal (tree table c.in-At.a) (subst (λ m. LawfulTo m s) (sym c.requires.room.1) job.lawful) (subst (λ m. NamedState s m c.in-At.nominal c.named_state.result) (sym c.requires.room.1) c.named_state.ensures) (subst (Tells k.reads k.reach (length own) s c.args.v (tree table c.in-At.a)) (sym c.row_of-in-At.ensures) t));
-    }
-
-pub label_here-requires : goal.label_here-requires
-label_here-requires g c =
-    let job = c.args.self.now in
-    let r = c.in_default in
-    record {
-      known = ((job.orderly c.args.f c.requires.fit.0).0, leaf_rest (get_or job.table.now c.args.f op.True) c.requires.fit.1 r.not-Not r.not-And r.not-Or r.not-Next r.not-Previous r.not-Until r.not-Since r.not-At);
-      long = c.requires.room.1;
     }
 
 pub returns-in_default : goal.returns-in_default

@@ -9,9 +9,6 @@ use Rattle.labelling.proofs.Publishes.{published_more}
 use Rattle.labelling.proofs.job.Job.publish.Goals as goal
 use Rattle.labelling.proofs.job.Job.publish.Goals.{then-loose, else-loose}
 
-pub loop-f-init : goal.loop-f-init
-loop-f-init g c = ((λ j less. absurd (omega arith)), (λ j le. ap (row c.args.self.now.n j) c.copy_from_slice.ensures.after))
-
 pub loop-f-preserved : goal.loop-f-preserved
 loop-f-preserved g c =
     let reads = g.K.LabelKind.reads in
