@@ -23,11 +23,6 @@ returns-in-Ok-clause-right g c law small =
     let p = enough (length (table_of b)) (length xs) (few b.table) small in
     right_after xs b old.cells old.work c.label_whole.new.work labelled (same.1 ∙ done.0) small (omega (arith, b.wide)) c.recount.ensures.right
 
-pub returns-in_default-clause-counted : goal.returns-in_default-clause-counted
-returns-in_default-clause-counted g c law small =
-    let old = c.args.self.now in
-    absurd (not_declined (formulas_of old.table.draft) (g.R.Readable.states c.args.log.now) (length old.cells) (length old.work) (few old.table) small law old.wide old.spare c.in_default.field-0 c.in_default.ensures.0)
-
 pub returns-in_default-clause-right : goal.returns-in_default-clause-right
 returns-in_default-clause-right g c law small =
     let old = c.args.self.now in

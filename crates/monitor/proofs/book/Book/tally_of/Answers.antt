@@ -1,4 +1,4 @@
-use Rattle.std.proofs.Common.{◌≡◌, ◌-◌, arith}
+use Rattle.std.proofs.Common.{◌-◌, arith}
 use Rattle.monitor.specs.Book.{held}
 use Rattle.monitor.proofs.Tallies.{few, tallied_more}
 use Rattle.monitor.proofs.book.Book.tally_of.Goals as goal
@@ -10,8 +10,3 @@ count_one-requires c =
 
 pub loop-state-preserved : goal.loop-state-preserved
 loop-state-preserved c = tallied_more (held c.args.self.now) _ c.args.self.now.count c.loop-state.state _ _ _ (omega arith) c.loop-state.invariant c.standing.ensures c.count_one.ensures
-
-pub returns : goal.returns
-returns c =
-    let all : c.loop-state.state - 1 ≡ c.args.self.now.count = omega arith in
-    cc
