@@ -15,7 +15,7 @@ pub(crate) fn number(text: &[u8]) -> Option<u64>
     if text.is_empty() || text.len() > MOST_DIGITS {
         return None;
     }
-    if text[0] == ZERO && text.len() > 1 {
+    if let [ZERO, _, ..] = text {
         return None;
     }
     let mut n: u64 = 0;
