@@ -1,4 +1,5 @@
-use Rattle.std.proofs.Common.{◌≡◌, ℕ, List, [], ◌∷◌, ◌++◌, length, decimal, refl, ap, ◌∙◌, arith}
+use Rattle.std.proofs.Common.{◌≡◌, ◌↔◌, ℕ, Bool, true, false, IsTrue, MatchOption, Option, List, [], ◌∷◌, ◌++◌, length, decimal, refl, ap, ◌∙◌, arith}
+use Rattle.std.specs.Bool.{then_some}
 use Rattle.std.specs.List.{AllByRecursion as All}
 use Rattle.std.proofs.lemmas.List.{append_cancel_left}
 use Rattle.words.specs.Words.{word}
@@ -74,3 +75,9 @@ missing {n = n} {ks = ks} {ts = ts} x h = here (λ s. x n (shown ks ts) h s)
 
 pub missing_word : {before k : List ℕ} {ks ts : List (List ℕ)} → NoOperator before k → (o : Operator) → Broken before (k ∷ ks) (word o ∷ ts)
 missing_word {ks = ks} {ts = ts} x o = here (λ s. x o (shown ks ts) s)
+
+-- what a line gives whose fields were read, by whether it is at its end
+pub at_end : {T N : Type 0} (S : T → Type 0) {rest : List ℕ} (b : Bool) (x : T) (o : Option T)
+    → IsTrue b ↔ (rest ≡ []) → o ≡ then_some b x → ((rest ≡ [] → ⊥) → N) → (rest ≡ [] → S x) → MatchOption o N S
+at_end S true x o e is n s = rw is (s (e.0 refl))
+at_end S false x o e is n s = rw is (n (λ h. let b = e.1 h in cc b))

@@ -20,7 +20,8 @@ pub fn first_line(text: &[u8], place: usize) -> Result<&[u8], LineFault>
     Ok(&text[..n])
 }
 
-// What a line shows, and how many bytes the line takes.
+// What a line shows, and how many bytes the line takes. A count and not the rest: how many bytes a text takes is what a
+// reader answers.
 #[derive(Drop, Clone, Copy, PartialEq, Eq, Debug)]
 pub struct Taken<T> {
     pub value: T,

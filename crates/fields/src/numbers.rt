@@ -12,10 +12,10 @@ const ZERO: u8 = b'0';
 pub(crate) fn number(text: &[u8]) -> Option<u64>
     ensures { MatchOption result ((n : ℕ) → Number text.now n → ⊥) (λ n. Number text.now n) }
 {
-    if text.is_empty() || text.len() > MOST_DIGITS {
+    if text.len() > MOST_DIGITS {
         return None;
     }
-    if text[0] == ZERO && text.len() > 1 {
+    if let [] | [ZERO, _, ..] = text {
         return None;
     }
     let mut n: u64 = 0;

@@ -54,9 +54,8 @@ impl<'a> Fields<'a> {
         Some(value)
     }
 
-    // Reads the operator whose word stands under a key that comes next. Beside `number`, and not one with it: they share the
-    // step past the field and no more, and a shared function would take the field's case, the reader and the promise of each
-    // from its caller.
+    // Reads the operator whose word stands under a key that comes next. Beside `number`, and not one with it: a shared function
+    // would take the field's case, the reader and the promise of each from its caller, which is more than each has.
     pub fn operator<K: LineKey>(&mut self, key: K) -> Option<Operator>
         ensures read { MatchOption result (NoOperator (rest_of self.old) (K.written key)) (λ o. Took (rest_of self.old) (K.written key) (word_of o) (rest_of self.new)) }
         ensures unread { IfNone result (rest_of self.new ≡ rest_of self.old) }

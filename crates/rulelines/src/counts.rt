@@ -15,10 +15,7 @@ fn number_of(line: &[u8], key: CountKey) -> Option<u64>
 {
     let mut fields = Fields::of(line);
     let number = fields.number(key)?;
-    if !fields.is_at_end() {
-        return None;
-    }
-    Some(number)
+    fields.is_at_end().then_some(number)
 }
 
 // A number as a count from 1 to `most`.

@@ -24,10 +24,7 @@ pub(crate) fn entry_of(line: &[u8]) -> Option<Entry>
     let operator = fields.operator(FormulaKey::Operator)?;
     let a = fields.number(FormulaKey::First)?;
     let b = fields.number(FormulaKey::Second)?;
-    if !fields.is_at_end() {
-        return None;
-    }
-    Some(Entry {
+    fields.is_at_end().then_some(Entry {
         number,
         operator,
         a,

@@ -24,10 +24,7 @@ fn numbers_of(line: &[u8]) -> Option<Numbers>
     let number = fields.number(RuleKey::Number)?;
     let condition = fields.number(RuleKey::When)?;
     let content = fields.number(RuleKey::Expect)?;
-    if !fields.is_at_end() {
-        return None;
-    }
-    Some(Numbers {
+    fields.is_at_end().then_some(Numbers {
         number,
         condition,
         content,

@@ -20,17 +20,19 @@ pub(crate) fn join_formula(
 {
     draft
         .add_formula(formula)
-        .map_err(|_| TableFault::Dangling(place))?;
-    Ok(())
+        .map(|_| ())
+        .map_err(|_| TableFault::Dangling(place))
 }
 
 pub(crate) fn join_rule(draft: &mut Draft, rule: Rule, place: usize) -> Result<(), TableFault>
     requires { length (rules_of draft.old) < 16 }
     ensures { RuleJoins draft.old rule place result draft.new }
 {
-    draft.add_rule(rule).map_err(|defect| match defect {
-        Defect::LooseRule => TableFault::Loose(place),
-        _ => TableFault::Dangling(place),
-    })?;
-    Ok(())
+    draft
+        .add_rule(rule)
+        .map(|_| ())
+        .map_err(|defect| match defect {
+            Defect::LooseRule => TableFault::Loose(place),
+            _ => TableFault::Dangling(place),
+        })
 }

@@ -30,10 +30,7 @@ pub(crate) fn numbers_of(line: &[u8]) -> Option<Numbers>
     let first_target = fields.number(TraceKey::FirstTarget)?;
     let second_kind = fields.number(TraceKey::SecondKind)?;
     let second_target = fields.number(TraceKey::SecondTarget)?;
-    if !fields.is_at_end() {
-        return None;
-    }
-    Some(Numbers {
+    fields.is_at_end().then_some(Numbers {
         state,
         signals,
         nominal,

@@ -23,9 +23,7 @@ const MOST_BYTES: usize = 32768;
 fn only(heap: Global, line: Line) -> Result<Vec<Line>, AllocError>
     ensures { IfOk result (λ v. v.items ≡ line ∷ []) }
 {
-    let mut lines = Vec::new(heap);
-    lines.push(line)?;
-    Ok(lines)
+    Ok(vec![in heap; line]?)
 }
 
 // The lines of an input whose rules text was read, over an empty record.

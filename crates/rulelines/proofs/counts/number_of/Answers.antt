@@ -1,8 +1,10 @@
-use Rattle.std.proofs.Common.{◌∙◌}
+use Rattle.std.proofs.Common.{◌∙◌, rules}
 use Rattle.fields.proofs.Parted.{solid_decimal}
-use Rattle.fields.proofs.Shown.{later, over, broken}
+use Rattle.fields.proofs.Shown.{later, over, broken, at_end}
 use Rattle.rulelines.proofs.counts.number_of.Goals as goal
 
-pub returns-then-not-is_at_end : goal.returns-then-not-is_at_end
-returns-then-not-is_at_end c m h e =
-    broken (later c.in_ok-number.ensures.read.took (over (λ z. let b = c.is_at_end.ensures.1 z in cc (b, c.if-not-is_at_end.true)))) tt (solid_decimal m h, tt) (c.of-fields.ensures ∙ e)
+pub returns : goal.returns
+returns c =
+    at_end _ c.is_at_end.result c.in_ok-number.number c.then_some.result c.is_at_end.ensures c.then_some.ensures
+    (λ n m h e. broken (later c.in_ok-number.ensures.read.took (over n)) tt (solid_decimal m h, tt) (c.of-fields.ensures ∙ e))
+    (λ e. search rules)

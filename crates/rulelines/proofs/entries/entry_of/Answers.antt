@@ -1,4 +1,5 @@
-use Rattle.fields.proofs.Shown.{later, over, missing, missing_word}
+use Rattle.std.proofs.Common.{rules}
+use Rattle.fields.proofs.Shown.{later, over, at_end, missing, missing_word}
 use Rattle.rulelines.proofs.Showing.{no_formula}
 use Rattle.rulelines.proofs.entries.entry_of.Goals as goal
 
@@ -14,6 +15,8 @@ pub returns-in_err-b : goal.returns-in_err-b
 returns-in_err-b c =
     rw c.from_residual-in_err-b.ensures (no_formula _ c.args.line.now c.of-fields.ensures (λ v f. later c.in_ok-number.ensures.read.took (later c.in_ok-operator.ensures.read (later c.in_ok-a.ensures.read.took (missing c.in_err-b.ensures.read f.b)))))
 
-pub returns-then-not-is_at_end : goal.returns-then-not-is_at_end
-returns-then-not-is_at_end c =
-    no_formula _ c.args.line.now c.of-fields.ensures (λ v f. later c.in_ok-number.ensures.read.took (later c.in_ok-operator.ensures.read (later c.in_ok-a.ensures.read.took (later c.in_ok-b.ensures.read.took (over (λ e. let b = c.is_at_end.ensures.1 e in cc (b, c.if-not-is_at_end.true)))))))
+pub returns : goal.returns
+returns c =
+    at_end _ c.is_at_end.result _ c.then_some.result c.is_at_end.ensures c.then_some.ensures
+    (λ n. no_formula _ c.args.line.now c.of-fields.ensures (λ v f. later c.in_ok-number.ensures.read.took (later c.in_ok-operator.ensures.read (later c.in_ok-a.ensures.read.took (later c.in_ok-b.ensures.read.took (over n))))))
+    (λ e. search rules)

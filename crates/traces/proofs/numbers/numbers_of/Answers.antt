@@ -1,4 +1,5 @@
-use Rattle.fields.proofs.Shown.{later, over, missing}
+use Rattle.std.proofs.Common.{rules}
+use Rattle.fields.proofs.Shown.{later, over, at_end, missing}
 use Rattle.traces.proofs.Showing.{breaks}
 use Rattle.traces.proofs.numbers.numbers_of.Goals as goal
 
@@ -32,6 +33,8 @@ returns-in_err-second_target c =
     rw c.from_residual-in_err-second_target.ensures
     (breaks _ c.args.line.now c.of-fields.ensures (λ i q f. later c.in_ok-state.ensures.read.took (later c.in_ok-signals.ensures.read.took (later c.in_ok-nominal.ensures.read.took (later c.in_ok-first_kind.ensures.read.took (later c.in_ok-first_target.ensures.read.took (later c.in_ok-second_kind.ensures.read.took (missing c.in_err-second_target.ensures.read f.second_target))))))))
 
-pub returns-then-not-is_at_end : goal.returns-then-not-is_at_end
-returns-then-not-is_at_end c =
-    breaks _ c.args.line.now c.of-fields.ensures (λ i q f. later c.in_ok-state.ensures.read.took (later c.in_ok-signals.ensures.read.took (later c.in_ok-nominal.ensures.read.took (later c.in_ok-first_kind.ensures.read.took (later c.in_ok-first_target.ensures.read.took (later c.in_ok-second_kind.ensures.read.took (later c.in_ok-second_target.ensures.read.took (over (λ e. let b = c.is_at_end.ensures.1 e in cc (b, c.if-not-is_at_end.true))))))))))
+pub returns : goal.returns
+returns c =
+    at_end _ c.is_at_end.result _ c.then_some.result c.is_at_end.ensures c.then_some.ensures
+    (λ n. breaks _ c.args.line.now c.of-fields.ensures (λ i q f. later c.in_ok-state.ensures.read.took (later c.in_ok-signals.ensures.read.took (later c.in_ok-nominal.ensures.read.took (later c.in_ok-first_kind.ensures.read.took (later c.in_ok-first_target.ensures.read.took (later c.in_ok-second_kind.ensures.read.took (later c.in_ok-second_target.ensures.read.took (over n)))))))))
+    (λ e. search rules)
