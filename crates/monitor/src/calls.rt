@@ -157,6 +157,8 @@ impl<R: Growing> Monitor<R> {
     }
 
     // Appends a state and answers its number: labels the record and counts the tallies again. A refusal changes nothing.
+    // That the table and the record's room stay is said in two clauses, here and of each function that changes a monitor,
+    // since the monitor is lent to each.
     pub fn append(&mut self, state: State) -> Result<usize, Refusal>
         ensures told { result ≡ outcome (refused_by self.old.book.count (ground_of self.old.book (R.Growing.room self.old.log)) (R.Readable.states self.old.log) (Append state)) (length (R.Readable.states self.old.log) + 1) }
         ensures states { is_ok result ≡ true → R.Readable.states self.new.log ≡ R.Readable.states self.old.log ++ state ∷ [] }
