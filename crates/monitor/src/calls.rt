@@ -6,7 +6,6 @@ ghost use Rattle.expectations.specs.Expectations.{verdict, standing as standing_
 ghost use Rattle.refusals.specs.declared.Refusal.TheVariants.{ForeignRecord, NoSuchName, LooseFormula};
 ghost use Rattle.answers.specs.declared.types.Call.TheVariants.{Append, LabelAt, StandingAt, TallyOf, NoticeOf};
 ghost use Rattle.answers.specs.Answers.{refused_by, outcome};
-ghost use Rattle.table.specs.Tables.{InOrder};
 ghost use Rattle.growth.specs.Growth.{labels_of};
 ghost use Rattle.monitor.specs.Book.{ground_of, table_of, rules_in};
 ghost use Rattle.monitor.specs.Whole.{WholeAnswered, Agrees};
@@ -51,9 +50,8 @@ impl Book {
 
     // The rule with a number, if the table has one.
     fn rule(&self, r: usize) -> Result<Rule, Refusal>
-        ensures found { MatchResult result (λ rule. (r < length (rules_in self.now)) × (rule ≡ slice_index_or (rules_in self.now) r no_rule))
+        ensures { MatchResult result (λ rule. (r < length (rules_in self.now)) × (rule ≡ slice_index_or (rules_in self.now) r no_rule))
             (λ why. (why ≡ NoSuchName) × (length (rules_in self.now) ≤ r)) }
-        ensures order { InOrder (table_of self.now) (rules_in self.now) }
     {
         self.table
             .rules()
