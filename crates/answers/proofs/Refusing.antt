@@ -1,8 +1,8 @@
 -- A call is refused for the first reason that fits, and for none if none fits.
-use Rattle.std.proofs.Common.{◌≡◌, ℕ, ◌≤◌, Bool, true, false, Some, None, Option, refl, ◌∙◌, arith}
+use Rattle.std.proofs.Common.{◌≡◌, ℕ, ◌≤◌, Bool, true, false, Some, None, Ok, Err, Option, sym, refl, ap, ◌∙◌, arith}
 use Rattle.std.proofs.lemmas.Bool.{and_parts, and_from, not-false, not_from_true, leb-true, le-leb, cond-false}
 use Rattle.refusals.specs.declared.Refusal.{Refusal}
-use Rattle.answers.specs.Answers.{outside, or_else}
+use Rattle.answers.specs.Answers.{outside, or_else, outcome}
 
 pub no_reason : (b : Bool) (r : Refusal) (rest : Option Refusal) → or_else b r rest ≡ None → (b ≡ false) × (rest ≡ None)
 no_reason true r rest e = let z : ◌≡◌ {A = ℕ} 0 1 = cc in absurd (omega arith)
@@ -16,3 +16,13 @@ within i low high h = let p = and_parts _ _ (not-false _ h) in (leb-true low i p
 
 pub inside : (i low high : ℕ) → low ≤ i → i ≤ high → outside i low high ≡ false
 inside i low high a b = not_from_true _ (and_from _ _ (le-leb low i a) (le-leb i high b))
+
+-- an answer is the one to a call that no refusal fits
+pub outcome_ok : {A : Type 0} (o : Option Refusal) (v w : A) → Ok w ≡ outcome o v → (o ≡ None) × (w ≡ v)
+outcome_ok (Some r) v w e = let z : ◌≡◌ {A = ℕ} 0 1 = cc in absurd (omega arith)
+outcome_ok None v w e = (refl, cc)
+
+-- a refusal is the one that fits
+pub outcome_err : {A : Type 0} (o : Option Refusal) (v : A) (why : Refusal) → Err why ≡ outcome o v → o ≡ Some why
+outcome_err (Some r) v why e = let z : why ≡ r = cc in ap Some (sym z)
+outcome_err None v why e = let z : ◌≡◌ {A = ℕ} 0 1 = cc in absurd (omega arith)

@@ -1,6 +1,6 @@
 -- What a loop over a list of calls keeps. A monitor whose count is that of its record answers each call as told after the states
 -- accepted so far; over any other record it gives every call the refusal of a foreign record.
-use Rattle.std.proofs.Common.{◌≡◌, ℕ, ◌+◌, ◌<◌, cond, eqb, ◌≢◌, List, [], length, get_or, take, set, Some, Result, sym, refl, ap, ◌∙◌, ap₂, arith, below_none, below_more}
+use Rattle.std.proofs.Common.{◌≡◌, ℕ, ◌+◌, ◌<◌, eqb, ◌≢◌, List, [], length, get_or, take, set, Some, Result, sym, refl, ap, ◌∙◌, ap₂, arith, below_none, below_more}
 use Rattle.std.proofs.lemmas.List.{take_more, take_all, get_or-set_same, get_or-set_other, nil_from_length}
 use Rattle.std.proofs.lemmas.Bool.{eq-eqb, ne_eqb, cond-true, cond-false}
 use Rattle.logic.specs.declared.types.State.{State}
@@ -10,26 +10,19 @@ use Rattle.refusals.specs.declared.Refusal.TheVariants as refusal
 use Rattle.answers.specs.declared.types.Call.{Call}
 use Rattle.answers.specs.declared.types.Call.TheVariants.{Append}
 use Rattle.answers.specs.declared.types.Answer.{Answer}
-use Rattle.answers.specs.Answers.{Ground, refusal_of, answer, outcome, told, after, accepted, replied}
+use Rattle.answers.specs.Answers.{Ground, refusal_of, answer, outcome, told, after, accepted, replied, grown_to}
 use Rattle.answers.specs.Law.{foreign, Ran}
 use Rattle.answers.proofs.Accepting.{accepted_push}
-
--- the states after one call more of a monitor that has counted `own` states
-abbrev pub grown : (own : ℕ) → Ground → List State → Call → List State
-grown own G xs call = cond (eqb own (length xs)) (after G xs call) xs
 
 -- ── one call ──
 pub own_told : (own : ℕ) (G : Ground) (xs : List State) (call : Call) → own ≡ length xs → replied own G xs call ≡ told G xs call
 own_told own G xs call e = ap (λ why. outcome why (answer G xs call)) (cond-true (eqb own (length xs)) (refusal_of G xs call) (Some refusal.ForeignRecord) (eq-eqb own (length xs) e))
 
-pub own_grown : (own : ℕ) (G : Ground) (xs : List State) (call : Call) → own ≡ length xs → grown own G xs call ≡ after G xs call
+pub own_grown : (own : ℕ) (G : Ground) (xs : List State) (call : Call) → own ≡ length xs → grown_to own G xs call ≡ after G xs call
 own_grown own G xs call e = cond-true (eqb own (length xs)) (after G xs call) xs (eq-eqb own (length xs) e)
 
 pub foreign_told : (own : ℕ) (G : Ground) (xs : List State) (call : Call) → (own ≡ length xs → ⊥) → replied own G xs call ≡ foreign
 foreign_told own G xs call ne = ap (λ why. outcome why (answer G xs call)) (cond-false (eqb own (length xs)) (refusal_of G xs call) (Some refusal.ForeignRecord) (ne_eqb own (length xs) ne))
-
-pub foreign_grown : (own : ℕ) (G : Ground) (xs : List State) (call : Call) → (own ≡ length xs → ⊥) → grown own G xs call ≡ xs
-foreign_grown own G xs call ne = cond-false (eqb own (length xs)) (after G xs call) xs (ne_eqb own (length xs) ne)
 
 -- ── the first k calls ──
 
@@ -51,7 +44,7 @@ foreign_none answers = below_none (λ j. get_or answers j foreign ≡ foreign)
 
 pub own_more : (G : Ground) (start : List State) (calls : List Call) (k own own' : ℕ) (xs xs' : List State) (answers : List (Result Answer Refusal)) (z : Result Answer Refusal)
     → k < length calls → k < length answers
-    → z ≡ replied own G xs (get_or calls k (Append blank)) → xs' ≡ grown own G xs (get_or calls k (Append blank)) → (own ≡ length xs → own' ≡ length xs')
+    → z ≡ replied own G xs (get_or calls k (Append blank)) → xs' ≡ grown_to own G xs (get_or calls k (Append blank)) → (own ≡ length xs → own' ≡ length xs')
     → OwnSoFar G start calls k own xs answers → OwnSoFar G start calls (k + 1) own' xs' (set answers k z)
 own_more G start calls k own own' xs xs' answers z h h' ez ex eo inv =
     let call = get_or calls k (Append blank) in (

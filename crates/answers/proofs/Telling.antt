@@ -1,5 +1,5 @@
 -- Which calls are answered, and with what.
-use Rattle.std.proofs.Common.{◌≡◌, ℕ, zero, suc, ◌<◌, ◌≤◌, false, leb, List, [], ◌∷◌, length, get_or, Some, None, Ok, Option, refl, ap, ap₂, arith}
+use Rattle.std.proofs.Common.{◌≡◌, ℕ, zero, suc, ◌<◌, ◌≤◌, false, leb, List, [], ◌∷◌, length, get_or, Some, None, Ok, Option, sym, refl, ap, ap₂, arith}
 use Rattle.std.specs.List.{slice_get}
 use Rattle.std.proofs.lemmas.Bool.{leb-false, lt-leb}
 use Rattle.logic.specs.declared.types.State.{State}
@@ -7,18 +7,12 @@ use Rattle.expectations.specs.declared.types.Verdict.{Verdict}
 use Rattle.expectations.specs.declared.types.Notice.{Notice}
 use Rattle.expectations.specs.declared.types.Tally.{Tally}
 use Rattle.expectations.specs.Expectations.{no_rule, verdict, tallied, notices}
-use Rattle.refusals.specs.declared.Refusal.{Refusal}
 use Rattle.refusals.specs.declared.Refusal.TheVariants as refusal
 use Rattle.answers.specs.declared.types.Call.TheVariants.{LabelAt, StandingAt, TallyOf, NoticeOf}
 use Rattle.answers.specs.declared.types.Answer.{Answer}
 use Rattle.answers.specs.declared.types.Answer.TheVariants.{Reads, Counts, Tells}
 use Rattle.answers.specs.Answers.{Ground, outside, or_else, refusal_of, answer, outcome, told}
-use Rattle.answers.proofs.Refusing.{no_reason, without_reason, within, inside}
-
--- an answer is the one to a call that no refusal fits
-answered : (why : Option Refusal) (a z : Answer) → outcome why a ≡ Ok z → (why ≡ None) × (a ≡ z)
-answered (Some r) a z e = let n : ◌≡◌ {A = ℕ} 0 1 = cc in absurd (omega arith)
-answered None a z e = (refl, cc)
+use Rattle.answers.proofs.Refusing.{no_reason, without_reason, within, inside, outcome_ok}
 
 -- ── Labels ──
 
@@ -71,8 +65,8 @@ reads_same v w e = cc
 
 pub label_told : (G : Ground) (xs : List State) (f i c : ℕ) (v : Verdict) → told G xs (LabelAt f i c) ≡ Ok (Reads v) → Asked G (length xs) f i c × (verdict (G.labelled xs f i) c ≡ v)
 label_told G xs f i c v e =
-    let p = answered (refusal_of G xs (LabelAt f i c)) (answer G xs (LabelAt f i c)) (Reads v) e in
-    (label_asked G xs f i c p.0, reads_same _ v p.1)
+    let p = outcome_ok (refusal_of G xs (LabelAt f i c)) (answer G xs (LabelAt f i c)) (Reads v) (sym e) in
+    (label_asked G xs f i c p.0, reads_same _ v (sym p.1))
 
 pub label_tells : (G : Ground) (xs : List State) (f i c : ℕ) (v : Verdict) → Asked G (length xs) f i c → verdict (G.labelled xs f i) c ≡ v → told G xs (LabelAt f i c) ≡ Ok (Reads v)
 label_tells G xs f i c v a e = ap₂ outcome (asked_label G xs f i c a) (ap Reads e)
@@ -91,7 +85,7 @@ counts_same t u e = cc
 
 pub tally_told : (G : Ground) (xs : List State) (r : ℕ) (t : Tally) → told G xs (TallyOf r) ≡ Ok (Counts t) →
     tallied (G.labelled xs) (get_or G.rules r no_rule) (length xs) (length xs) ≡ t
-tally_told G xs r t e = counts_same _ t (answered (refusal_of G xs (TallyOf r)) (answer G xs (TallyOf r)) (Counts t) e).1
+tally_told G xs r t e = counts_same _ t (sym (outcome_ok (refusal_of G xs (TallyOf r)) (answer G xs (TallyOf r)) (Counts t) (sym e)).1)
 
 -- ── Notices ──
 
@@ -106,8 +100,8 @@ tells_same o p e = cc
 notice_is : (G : Ground) (xs : List State) (c k : ℕ) (o : Option Notice) → told G xs (NoticeOf c k) ≡ Ok (Tells o)
     → (refusal_of G xs (NoticeOf c k) ≡ None) × (slice_get (notices (G.labelled xs) G.rules c) k ≡ o)
 notice_is G xs c k o e =
-    let p = answered (refusal_of G xs (NoticeOf c k)) (answer G xs (NoticeOf c k)) (Tells o) e in
-    (p.0, tells_same _ o p.1)
+    let p = outcome_ok (refusal_of G xs (NoticeOf c k)) (answer G xs (NoticeOf c k)) (Tells o) (sym e) in
+    (p.0, tells_same _ o (sym p.1))
 
 pub notice_stands : (G : Ground) (xs : List State) (c k : ℕ) (x : Notice) → told G xs (NoticeOf c k) ≡ Ok (Tells (Some x)) → slice_get (notices (G.labelled xs) G.rules c) k ≡ Some x
 notice_stands G xs c k x e = (notice_is G xs c k (Some x) e).1

@@ -91,3 +91,7 @@ refused_by own G xs call = cond (own == length xs) (refusal_of G xs call) (Some 
 -- what one call of a monitor that has counted `own` states answers over the states xs
 abbrev pub replied : (own : ℕ) → Ground → List State → Call → Result Answer Refusal
 replied own G xs call = outcome (refused_by own G xs call) (answer G xs call)
+
+-- the states of the record after one call of a monitor that has counted `own` states
+abbrev pub grown_to : (own : ℕ) → Ground → List State → Call → List State
+grown_to own G xs call = cond (own == length xs) (after G xs call) xs

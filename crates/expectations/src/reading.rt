@@ -27,7 +27,8 @@ pub fn is_false_from(label: Label, point: usize) -> bool
     label == Label::FalseFrom(point)
 }
 
-// What has become of a raised expectation, by the label of its content.
+// What has become of a raised expectation, by the label of its content. Beside `verdict_of`, and not by it: a standing keeps
+// the date, which a verdict has not.
 pub fn judge(label: Label, point: usize) -> Standing
     ensures { result ≡ judged label point }
 {

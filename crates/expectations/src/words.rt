@@ -6,6 +6,7 @@ use crate::types::{Event, Notice, Standing, Tally, Verdict};
 use std::fmt;
 
 impl Verdict {
+    // A word is lent as it is, here and below, to a caller that writes by itself; `Display` is made of it.
     pub fn word(self) -> &'static str
         ensures { result.now ≡ (of_verdict self).word }
     {

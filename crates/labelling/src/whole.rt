@@ -52,7 +52,8 @@ impl<'a, R: Readable> Job<'a, R> {
 }
 
 // Labels all states of a record at all formulas of a table, in any kind of label, and answers the number of states. Formula f
-// at state i of n has cell f * n + i - 1 of `labels`; `work` is working memory of as many cells.
+// at state i of n has cell f * n + i - 1 of `labels`; `work` is working memory of as many cells. Two slices, as the caller lends
+// them, through all that is called here: one is answered in, the other is cleared.
 pub fn label_whole<K: LabelKind + Copy, R: Readable>(
     table: &Table,
     log: &R,

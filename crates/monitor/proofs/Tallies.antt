@@ -1,17 +1,10 @@
 -- Tallies that are counted state by state. Assumes nothing.
-use Rattle.std.proofs.Common.{◌≡◌, ℕ, zero, suc, ◌+◌, ◌-◌, ◌≤◌, Bool, true, false, cond, sym, ◌∙◌, subst, arith}
+use Rattle.std.proofs.Common.{◌≡◌, ℕ, zero, suc, ◌+◌, ◌-◌, ◌≤◌, sym, ◌∙◌, subst, arith}
 use Rattle.logic.specs.declared.types.Rule.{Rule}
 use Rattle.expectations.specs.declared.types.Standing.{Standing}
 use Rattle.expectations.specs.declared.types.Tally.{Tally}
-use Rattle.expectations.specs.Expectations.{Labels, count, standing, tallied, added, is_raised, is_pending, is_fulfilled, is_violated}
-
-one_le : (b : Bool) → cond b 1 0 ≤ 1
-one_le true = omega arith
-one_le false = omega arith
-
-pub count_le : (p : ℕ → Bool) (n : ℕ) → count p n ≤ n
-count_le p zero = omega arith
-count_le p (suc n) = omega (arith, count_le p n, one_le (p (suc n)))
+use Rattle.expectations.specs.Expectations.{Labels, standing, tallied, added, is_raised, is_pending, is_fulfilled, is_violated}
+use Rattle.expectations.proofs.Counts.{count_le}
 
 abbrev Few : ℕ → Tally → Type 0
 Few n t = (t.raised ≤ n) × (t.pending ≤ n) × (t.fulfilled ≤ n) × (t.violated ≤ n)

@@ -6,7 +6,6 @@ ghost use Rattle.expectations.specs.Expectations.{verdict, standing as standing_
 ghost use Rattle.refusals.specs.declared.Refusal.TheVariants.{ForeignRecord, NoSuchName, LooseFormula};
 ghost use Rattle.answers.specs.declared.types.Call.TheVariants.{Append, LabelAt, StandingAt, TallyOf, NoticeOf};
 ghost use Rattle.answers.specs.Answers.{refused_by, outcome};
-ghost use Rattle.table.specs.Tables.{InOrder};
 ghost use Rattle.growth.specs.Growth.{labels_of};
 ghost use Rattle.monitor.specs.Book.{ground_of, table_of, rules_in};
 ghost use Rattle.monitor.specs.Whole.{WholeAnswered, Agrees};
@@ -51,9 +50,8 @@ impl Book {
 
     // The rule with a number, if the table has one.
     fn rule(&self, r: usize) -> Result<Rule, Refusal>
-        ensures found { MatchResult result (λ rule. (r < length (rules_in self.now)) × (rule ≡ slice_index_or (rules_in self.now) r no_rule))
+        ensures { MatchResult result (λ rule. (r < length (rules_in self.now)) × (rule ≡ slice_index_or (rules_in self.now) r no_rule))
             (λ why. (why ≡ NoSuchName) × (length (rules_in self.now) ≤ r)) }
-        ensures order { InOrder (table_of self.now) (rules_in self.now) }
     {
         self.table
             .rules()
@@ -157,6 +155,8 @@ impl<R: Growing> Monitor<R> {
     }
 
     // Appends a state and answers its number: labels the record and counts the tallies again. A refusal changes nothing.
+    // That the table and the record's room stay is said in two clauses, here and of each function that changes a monitor,
+    // since the monitor is lent to each.
     pub fn append(&mut self, state: State) -> Result<usize, Refusal>
         ensures told { result ≡ outcome (refused_by self.old.book.count (ground_of self.old.book (R.Growing.room self.old.log)) (R.Readable.states self.old.log) (Append state)) (length (R.Readable.states self.old.log) + 1) }
         ensures states { is_ok result ≡ true → R.Readable.states self.new.log ≡ R.Readable.states self.old.log ++ state ∷ [] }

@@ -3,8 +3,7 @@ ghost use Rattle.std.specs.Prelude.{◌≡◌, ℕ, ◌+◌, ◌-◌, ◌*◌, �
 ghost use Rattle.std.specs.List.{slice_get, flat_map};
 ghost use Rattle.std.specs.Option.{option_to_list};
 ghost use Rattle.expectations.specs.Expectations.{raises, standing as standing_of, tallied, added, of_state, notices, no_rule};
-ghost use Rattle.table.specs.Tables.{InOrder};
-ghost use Rattle.monitor.specs.Book.{held, table_of, rules_in, SameButTallies, TalliesRight};
+ghost use Rattle.monitor.specs.Book.{held, rules_in, SameButTallies, TalliesRight};
 
 use crate::book::Book;
 use expectations::reading::{is_false_from, is_true_from, judge};
@@ -145,8 +144,7 @@ impl Book {
     // The k-th notice of a point: by rule, then by raising state, a raising before its own decision.
     pub(crate) fn notice(&self, point: usize, k: usize) -> Option<Notice>
         requires { point < 2 ^ 15 }
-        ensures found { result ≡ slice_get (notices (held self.now) (rules_in self.now) point) k }
-        ensures order { InOrder (table_of self.now) (rules_in self.now) }
+        ensures { result ≡ slice_get (notices (held self.now) (rules_in self.now) point) k }
     {
         let mut more = k;
         let mut told = None;

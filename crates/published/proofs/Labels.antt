@@ -14,7 +14,8 @@ use Rattle.answers.specs.declared.types.Call.TheVariants.{LabelAt}
 use Rattle.answers.specs.Answers.{Ground, refused_by, outcome}
 use Rattle.published.specs.Asking.{dated_at}
 use Rattle.published.proofs.Dating.{OpenTo, dated_right}
-use Rattle.published.proofs.Refusing.{same_refusal, outcome_err, outcome_ok, given}
+use Rattle.answers.proofs.Refusing.{outcome_ok}
+use Rattle.published.proofs.Refusing.{same_refusal, same_err, given}
 
 module _ (own : ℕ) (G : Ground) (table : List Formula) (xs : List State) (f i : ℕ) where
   -- what is answered of the label
@@ -48,9 +49,9 @@ module _ (own : ℕ) (G : Ground) (table : List Formula) (xs : List State) (f i 
 
   pub refused_last : (last : ℕ) (why : Refusal) → last ≡ length xs → Read last (Err why) → Told (Err why)
   refused_last last why e read =
-      outcome_err (refused_by own G xs (LabelAt f i (length xs))) (verdict (labels_of table xs f i) (length xs)) (labels_of table xs f i) why (subst (λ n. Read n (Err why)) e read)
+      same_err (refused_by own G xs (LabelAt f i (length xs))) (verdict (labels_of table xs f i) (length xs)) (labels_of table xs f i) why (subst (λ n. Read n (Err why)) e read)
 
   pub refused_first : (p : ℕ) (why : Refusal) → i ≤ p → p < length xs → Read p (Err why) → Told (Err why)
   refused_first p why low high read =
-      outcome_err (refused_by own G xs (LabelAt f i (length xs))) (verdict (labels_of table xs f i) p) (labels_of table xs f i) why
+      same_err (refused_by own G xs (LabelAt f i (length xs))) (verdict (labels_of table xs f i) p) (labels_of table xs f i) why
       (read ∙ ap (λ (o : Option Refusal). outcome o (verdict (labels_of table xs f i) p)) (same_refusal own G xs f i p low high))

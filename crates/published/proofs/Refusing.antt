@@ -1,12 +1,12 @@
 -- When a label is asked for: the refusal is the same at every point that may be asked for. Assumes nothing.
-use Rattle.std.proofs.Common.{◌≡◌, ℕ, ◌<◌, ◌≤◌, Bool, true, false, cond, eqb, leb, List, length, Some, None, Ok, Err, Option, sym, refl, ap, ◌∙◌, arith}
+use Rattle.std.proofs.Common.{◌≡◌, ℕ, ◌<◌, ◌≤◌, Bool, true, false, cond, eqb, leb, List, length, Some, None, Err, Option, sym, refl, ap, ◌∙◌, arith}
 use Rattle.std.proofs.lemmas.Bool.{eqb-true}
 use Rattle.logic.specs.declared.types.State.{State}
 use Rattle.refusals.specs.declared.Refusal.{Refusal}
 use Rattle.refusals.specs.declared.Refusal.TheVariants as refusal
 use Rattle.answers.specs.declared.types.Call.TheVariants.{LabelAt}
 use Rattle.answers.specs.Answers.{Ground, outside, or_else, refusal_of, refused_by, outcome}
-use Rattle.answers.proofs.Refusing.{no_reason, within, inside}
+use Rattle.answers.proofs.Refusing.{no_reason, within, inside, outcome_err}
 
 -- at a point before the last, as at the last
 pub same_refusal : (own : ℕ) (G : Ground) (xs : List State) (f i c : ℕ) → i ≤ c → c < length xs
@@ -16,13 +16,9 @@ same_refusal own G xs f i c low high =
     let e : outside c i n ≡ outside n i n = inside c i n low (omega (arith, high)) ∙ sym (inside n i n (omega (arith, low, high)) (omega arith)) in
     ap (λ b. cond (eqb own n) (or_else (leb G.formulas f) refusal.NoSuchName (or_else (G.loose f) refusal.LooseFormula (or_else (outside i 1 n) refusal.NoSuchState (or_else b refusal.NoSuchPoint None)))) (Some refusal.ForeignRecord)) e
 
-pub outcome_err : {A B : Type 0} (o : Option Refusal) (v : A) (w : B) (why : Refusal) → Err why ≡ outcome o v → Err why ≡ outcome o w
-outcome_err (Some r) v w why e = let z : why ≡ r = cc in ap (λ (x : Refusal). Err x) z
-outcome_err None v w why e = let z : ◌≡◌ {A = ℕ} 0 1 = cc in absurd (omega arith)
-
-pub outcome_ok : {A : Type 0} (o : Option Refusal) (v w : A) → Ok w ≡ outcome o v → (o ≡ None) × (w ≡ v)
-outcome_ok (Some r) v w e = let z : ◌≡◌ {A = ℕ} 0 1 = cc in absurd (omega arith)
-outcome_ok None v w e = (refl, cc)
+-- whatever else would be answered, a refusal is the same
+pub same_err : {A B : Type 0} (o : Option Refusal) (v : A) (w : B) (why : Refusal) → Err why ≡ outcome o v → Err why ≡ outcome o w
+same_err o v w why e = sym (ap (λ (r : Option Refusal). outcome r w) (outcome_err o v why e))
 
 own_record : (b : Bool) (o : Option Refusal) → cond b o (Some refusal.ForeignRecord) ≡ None → (b ≡ true) × (o ≡ None)
 own_record true o e = (refl, e)

@@ -1,5 +1,5 @@
 -- What the answers of a monitor mean, and what one call of it changes.
-use Rattle.std.specs.Prelude.{◌≡◌, ℕ, ◌<◌, ◌≤◌, cond, List, length, Ok, Err, ◌==◌}
+use Rattle.std.specs.Prelude.{◌≡◌, ℕ, ◌<◌, ◌≤◌, List, length, Ok, Err}
 use Rattle.logic.specs.declared.types.State.{State}
 use Rattle.logic.specs.States.{Trace, state_at, Begins}
 use Rattle.logic.specs.Lawful.{Lawful}
@@ -9,10 +9,10 @@ use Rattle.refusals.specs.declared.Refusal.TheVariants as refusal
 use Rattle.lawful.specs.Unlawful.{MayNotFollow}
 use Rattle.expectations.specs.declared.types.Verdict.{Verdict}
 use Rattle.growth.specs.Laws.{Right}
-use Rattle.answers.specs.declared.types.Call.{Call}
 use Rattle.answers.specs.declared.types.Call.TheVariants.{Append, LabelAt}
 use Rattle.answers.specs.declared.types.Answer.TheVariants.{Reads}
-use Rattle.answers.specs.Answers.{Ground, told, after}
+pub use Rattle.answers.specs.Answers.{grown_to}
+use Rattle.answers.specs.Answers.{Ground, told}
 
 -- why an append is refused after the accepted states xs
 abbrev pub AppendRefused : Ground → List State → State → Refusal → Type 0
@@ -26,10 +26,6 @@ pub record Meant (G : Ground) (xs : List State) : Type 0 where
   pub verdicts : (f i c : ℕ) (v : Verdict) → told G xs (LabelAt f i c) ≡ Ok (Reads v) →
       Right v (ReadsAs weak (state_at xs) c 0 i (G.trees f)) (ReadsAs strong (state_at xs) c 0 i (G.trees f))
   pub appends : (x : State) (why : Refusal) → told G xs (Append x) ≡ Err why → AppendRefused G xs x why
-
--- the states of the record after one call of a monitor that has counted `own` states
-abbrev pub grown_to : (own : ℕ) → Ground → List State → Call → List State
-grown_to own G xs call = cond (own == length xs) (after G xs call) xs
 
 -- some lawful endless trace begins with the states, so what is said of all of them is not empty
 abbrev pub GoesOn : List State → Type 0

@@ -1,5 +1,5 @@
 -- A formula more keeps the order of those before it. Assumes nothing.
-use Rattle.std.proofs.Common.{◌≡◌, ℕ, zero, suc, ◌+◌, ◌<◌, ◌≢◌, Bool, false, List, [], ◌∷◌, ◌++◌, length, get_or, take, set, sym, refl, ap, ◌∙◌, subst, ⊎_elim, arith, length-append, get_or-set_other, get_or-set_same}
+use Rattle.std.proofs.Common.{◌≡◌, ℕ, zero, suc, ◌+◌, ◌<◌, ◌≢◌, Bool, false, List, [], ◌∷◌, ◌++◌, length, get_or, take, set, sym, refl, ap, ◌∙◌, subst, ⊎_elim, arith, length-append, length-take, get_or-set_other, get_or-set_same}
 use Rattle.std.proofs.Math.Seq.{get_or-append_seam}
 use Rattle.std.proofs.lemmas.Bool.{cases_eq}
 use Rattle.std.proofs.lemmas.List.{get_or_append_left, get_or-take, length-take-le, take_more_set}
@@ -9,7 +9,9 @@ use Rattle.logic.specs.declared.types.Formula.TheVariants.{True}
 use Rattle.logic.specs.declared.types.Rule.{Rule}
 use Rattle.logic.specs.Tables.{Orderly, OrderlyTable, Flagged, node, loose_by, loose, tree, tree_to}
 use Rattle.logic.proofs.Rows.{node_same, each_map, loose_same, flagged_more}
-use Rattle.table.specs.Order.{EachRuled}
+use Rattle.table.specs.declared.finished.Table.{Table}
+use Rattle.table.specs.Order.{EachRuled, InOrder}
+use Rattle.table.specs.Tables.{formulas_of, rules_of}
 
 module _ (formulas : List Formula) (orderly : OrderlyTable formulas) (φ : Formula) where
   longer : length (formulas ++ φ ∷ []) ≡ length formulas + 1
@@ -87,3 +89,15 @@ module _ (array : List Formula) (flags : List Bool) (n : ℕ) (φ : Formula) (fl
       (here ∙ ap (λ ψ. loose_by ψ (λ g. get_or (set flags n flag) g false)) (sym at))
       (λ f h. flag_below f h ∙ so_far f h ∙ sym (loose_there (take n array) orderly φ f (omega (arith, first))))
       )
+
+-- the formulas and rules of a table are in order, as its type says
+pub in_order : (t : Table) → InOrder (formulas_of t.draft) (rules_of t.draft)
+in_order t =
+    let formulas = length-take t.draft.count t.draft.formulas in
+    let rules = length-take t.draft.rule_count t.draft.rules in
+    record {
+      few = omega (arith, formulas, t.draft.few);
+      orderly = t.draft.orderly;
+      short = omega (arith, rules, t.draft.some);
+      ruled = t.draft.ruled;
+    }

@@ -1,5 +1,5 @@
 -- A trace line that is taken or refused. Assumes nothing.
-use Rattle.std.proofs.Common.{◌≡◌, ℕ, ◌+◌, ◌-◌, ◌<◌, ◌≤◌, cond, List, [], ◌∷◌, ◌++◌, map, length, take, drop, Some, None, Ok, Err, Option, Result, MatchResult, sym, refl, ap, ◌∙◌, subst, inr, arith, length-append, length-drop}
+use Rattle.std.proofs.Common.{◌≡◌, ℕ, ◌+◌, ◌-◌, ◌<◌, ◌≤◌, cond, List, [], ◌∷◌, ◌++◌, map, length, take, drop, Some, None, Ok, Err, Result, MatchResult, sym, refl, ap, ◌∙◌, subst, inr, arith, length-append, length-drop}
 use Rattle.std.proofs.lemmas.List.{take_all}
 use Rattle.std.proofs.lemmas.Bool.{eq-eqb}
 use Rattle.logic.specs.declared.types.State.{State}
@@ -12,6 +12,7 @@ use Rattle.expectations.specs.Expectations.{notices}
 use Rattle.answers.specs.declared.types.Call.{Call}
 use Rattle.answers.specs.declared.types.Call.TheVariants.{Append}
 use Rattle.answers.specs.Answers.{Ground, refusal_of, refused_by, outcome}
+use Rattle.answers.proofs.Refusing.{outcome_ok, outcome_err}
 use Rattle.watch_lib.specs.declared.lines.Line.{Line}
 use Rattle.watch_lib.specs.declared.lines.Line.TheVariants.{Told, Refused}
 use Rattle.watch_lib.specs.Watched.{point_lines, end_line_lem, Reaches, none, more, NotTaken, Traced, Steps}
@@ -29,10 +30,6 @@ rest_part text at = take_all (length text - at) (drop at text) (omega (arith, le
 own_refusal : (own : ℕ) (G : Ground) (xs : List State) (call : Call) → own ≡ length xs → refused_by own G xs call ≡ refusal_of G xs call
 own_refusal own G xs call e = ap (λ b. cond b (refusal_of G xs call) (Some refusal.ForeignRecord)) (eq-eqb own (length xs) e)
 
-outcome_err : {A : Type 0} (o : Option Refusal) (v : A) (why : Refusal) → Err why ≡ outcome o v → o ≡ Some why
-outcome_err (Some r) v why e = let z : why ≡ r = cc in ap Some (sym z)
-outcome_err None v why e = let z : ◌≡◌ {A = ℕ} 0 1 = cc in absurd (omega arith)
-
 pub not_taken : {A : Type 0} (own count : ℕ) (G : Ground) (xs : List State) (text : List ℕ) (x : State) (used : ℕ) (v : A) (why : Refusal) (n : ℕ)
     → own ≡ length xs → count ≡ length xs → Takes (trace_kind count) text (count + 1, x) used → Err why ≡ outcome (refused_by own G xs (Append x)) v → n ≡ (told why).number
     → NotTaken G xs text n
@@ -46,15 +43,11 @@ pub refused_line : {A : Type 0} (r : Result A Refusal) (m : Result A Line) (line
 refused_line (Ok x) m line place made is keeps reads = let e : m ≡ Ok x = keeps x made in let z : ◌≡◌ {A = ℕ} 0 1 = cc in absurd (omega arith)
 refused_line (Err why) m line place made is keeps reads = (why, refl, reads why made)
 
-outcome_ok : {A : Type 0} (o : Option Refusal) (v w : A) → Ok w ≡ outcome o v → o ≡ None
-outcome_ok (Some r) v w e = let z : ◌≡◌ {A = ℕ} 0 1 = cc in absurd (omega arith)
-outcome_ok None v w e = refl
-
 pub is_taken : {A : Type 0} (own count : ℕ) (G : Ground) (xs ys : List State) (text : List ℕ) (x : State) (used place : ℕ) (v w : A)
     → own ≡ length xs → count ≡ length xs → Takes (trace_kind count) text (count + 1, x) used → Ok w ≡ outcome (refused_by own G xs (Append x)) v → ys ≡ xs ++ x ∷ []
     → Steps G xs text place (Ok used) ys
 is_taken own count G xs ys text x used place v w o e takes r grown =
-    (x, subst (λ c. Takes (trace_kind c) text (c + 1, x) used) e takes, sym (own_refusal own G xs (Append x) o) ∙ outcome_ok (refused_by own G xs (Append x)) v w r, grown)
+    (x, subst (λ c. Takes (trace_kind c) text (c + 1, x) used) e takes, sym (own_refusal own G xs (Append x) o) ∙ (outcome_ok (refused_by own G xs (Append x)) v w r).0, grown)
 
 pub longer : (xs ys : List State) (x : State) (n : ℕ) → n ≡ length xs → ys ≡ xs ++ x ∷ [] → length ys ≡ n + 1
 longer xs ys x n e grown = ap length grown ∙ length-append xs (x ∷ []) ∙ ap (λ m. m + 1) (sym e)

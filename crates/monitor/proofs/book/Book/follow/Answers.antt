@@ -1,14 +1,12 @@
-use Rattle.std.proofs.Common.{◌≤◌, List, length, sym, ◌∙◌, subst, arith, length-take}
+use Rattle.std.proofs.Common.{List, length, sym, ◌∙◌, subst, arith}
 use Rattle.labels.specs.declared.dated.Dated.{Dated}
 use Rattle.table.specs.declared.finished.Table.{Table}
 use Rattle.table.specs.Tables.{formulas_of}
+use Rattle.table.proofs.Orders.{in_order}
 use Rattle.labelling.specs.Whole.{Labelled}
 use Rattle.monitor.specs.Book.{table_of}
 use Rattle.monitor.proofs.Followed.{dates, right_after, enough, not_declined}
 use Rattle.monitor.proofs.book.Book.follow.Goals as goal
-
-few : (t : Table) → length (formulas_of t.draft) ≤ 64
-few t = let h = length-take t.draft.count t.draft.formulas in omega (arith, t.draft.few)
 
 pub returns-in-Ok-clause-right : goal.returns-in-Ok-clause-right
 returns-in-Ok-clause-right g c law small =
@@ -20,10 +18,10 @@ returns-in-Ok-clause-right g c law small =
     let labelled : Labelled dates 256 (table_of b) xs old.cells old.work b.cells c.label_whole.new.work =
     subst (λ (t : Table). Labelled dates 256 (formulas_of t.draft) xs old.cells old.work b.cells c.label_whole.new.work) (sym same.0)
     (subst (λ (ys : List Dated). Labelled dates 256 (formulas_of old.table.draft) xs old.cells old.work ys c.label_whole.new.work) (sym same.2) done.1) in
-    let p = enough (length (table_of b)) (length xs) (few b.table) small in
+    let p = enough (length (table_of b)) (length xs) (in_order b.table).few small in
     right_after xs b old.cells old.work c.label_whole.new.work labelled (same.1 ∙ done.0) small (omega (arith, b.wide)) c.recount.ensures.right
 
 pub returns-in_default-clause-right : goal.returns-in_default-clause-right
 returns-in_default-clause-right g c law small =
     let old = c.args.self.now in
-    absurd (not_declined (formulas_of old.table.draft) (g.R.Readable.states c.args.log.now) (length old.cells) (length old.work) (few old.table) small law old.wide old.spare c.in_default.field-0 c.in_default.ensures.0)
+    absurd (not_declined (formulas_of old.table.draft) (g.R.Readable.states c.args.log.now) (length old.cells) (length old.work) (in_order old.table).few small law old.wide old.spare c.in_default.field-0 c.in_default.ensures.0)

@@ -4,6 +4,7 @@ use Rattle.expectations.specs.Expectations.{notices}
 use Rattle.answers.specs.declared.types.Call.TheVariants.{NoticeOf}
 use Rattle.answers.specs.Answers.{outcome, refused_by}
 use Rattle.monitor.specs.Book.{held, rules_in, ground_of}
+use Rattle.table.proofs.Orders.{in_order}
 use Rattle.monitor.proofs.Faithfuls.{notices_right}
 use Rattle.monitor.proofs.live.Monitor.notice.Goals as goal
 
@@ -14,5 +15,5 @@ returns g c =
     let own : m.book.count ≡ length xs = search rules in
     let taken : None ≡ refused_by m.book.count (ground_of m.book (g.R.Growing.room m.log)) xs (NoticeOf c.args.point c.args.k) = search rules in
     let found : c.notice.result ≡ slice_get (notices (held m.book) (rules_in m.book) c.args.point) c.args.k = search rules in
-    let right = notices_right xs m.book c.notice.ensures.order own (m.faithful own) c.args.point (omega arith) in
+    let right = notices_right xs m.book (in_order m.book.table) own (m.faithful own) c.args.point (omega arith) in
     ap₂ outcome taken (rw right at found)
