@@ -11,9 +11,8 @@ text_append (m ∷ ls) l =
     ap (λ t. line_text m ++ 10 ∷ t) (text_append ls l) ∙ sym (append_assoc (line_text m) (10 ∷ lines_text ls) (line_text l ++ 10 ∷ []))
 
 -- one line more
-pub text_more : (ls : List Line) (k : ℕ) (d : Line) (old one new : List ℕ) → k < length ls → one ≡ line_text (get_or ls k d)
-    → old ≡ lines_text (take k ls) → new ≡ (old ++ one) ++ 10 ∷ [] → new ≡ lines_text (take (k + 1) ls)
-text_more ls k d old one new h is inv e =
-    e ∙ append_assoc old one (10 ∷ []) ∙ ap (λ t. old ++ (t ++ 10 ∷ [])) is
-    ∙ ap (λ t. t ++ (line_text (get_or ls k d) ++ 10 ∷ [])) inv
+pub text_more : (ls : List Line) (k : ℕ) (d : Line) (old new : List ℕ) → k < length ls
+    → old ≡ lines_text (take k ls) → new ≡ old ++ (line_text (get_or ls k d) ++ 10 ∷ []) → new ≡ lines_text (take (k + 1) ls)
+text_more ls k d old new h inv e =
+    e ∙ ap (λ t. t ++ (line_text (get_or ls k d) ++ 10 ∷ [])) inv
     ∙ sym (text_append (take k ls) (get_or ls k d)) ∙ ap lines_text (sym (take_more ls k d h))

@@ -5,7 +5,6 @@ ghost use Rattle.example_logs.specs.Output.{lines_text, Printed};
 use std::alloc::{AllocError, Global};
 use watch_lib::lines::Line;
 use watch_lib::watch::watch;
-use watch_lib::written::text_of;
 
 // The lines, each with its line end.
 fn joined(heap: Global, lines: &[Line]) -> Result<String, AllocError>
@@ -13,9 +12,7 @@ fn joined(heap: Global, lines: &[Line]) -> Result<String, AllocError>
 {
     let mut text = String::new(heap);
     for line in lines {
-        let one = text_of(heap, *line)?;
-        text.push_str(one.as_str())?;
-        text.push_str("\n")?;
+        writeln!(text, "{line}")?;
     }
     Ok(text)
 }

@@ -18,7 +18,7 @@ pub fn table_of(formulas: &[Formula]) -> Result<Table, Fail> {
     Table::of(formulas, &[rule]).map_err(|_| Fail::new("no table"))
 }
 
-// The last formula is labelled so at the states, in dated numbers.
+// The last formula is labelled so at the states, in dated numbers. Arrays, as a caller without a heap has them.
 pub fn has_labels(
     rt: &impl Abort,
     formulas: &[Formula],

@@ -12,7 +12,8 @@ use strips::Strip;
 
 const PAIR: [Formula; 2] = [Formula::Signal(0), Formula::Not(0)];
 
-// Labels a log in dated labels over so many label cells and working cells, of 8 at most.
+// Labels a log in dated labels over so many label cells and working cells, of 8 at most. Arrays, as a caller without a heap
+// has them.
 fn tried(
     rt: &impl Abort,
     log: &[State],
@@ -31,20 +32,32 @@ fn tried(
     )))
 }
 
-#[test]
-fn length_of_strips(rt: HostRuntime) -> Result<(), Fail> {
+// A log that is one state longer than the kind's length is refused, and without its last state it is labelled.
+fn length_is<K: LabelKind + Copy>(
+    rt: &impl Abort,
+    log: &[State],
+    labels: &mut [K],
+    work: &mut [K],
+    length: usize,
+) -> Result<(), Fail> {
     let table = table_of(&[Formula::Signal(0)])?;
-    let log = [plain(0); 65];
-    let mut labels = [Strip::unknown(); 65];
-    let mut work = [Strip::unknown(); 65];
+    assert_eq!(rt; log.len().checked_sub(1), Some(length));
     assert_eq!(rt;
-        told(label_whole(&table, &Rows::new(&log), &mut labels, &mut work)),
+        told(label_whole(&table, &Rows::new(log), labels, work)),
         Err((7, 0))
     );
     assert_eq!(rt;
-        told(label_whole(&table, &Rows::new(&log[0..64]), &mut labels, &mut work)),
-        Ok(64)
+        told(label_whole(&table, &Rows::new(&log[..length]), labels, work)),
+        Ok(length)
     );
+    Ok(())
+}
+
+#[test]
+fn length_of_strips(rt: HostRuntime) -> Result<(), Fail> {
+    let mut labels = [Strip::unknown(); 65];
+    let mut work = [Strip::unknown(); 65];
+    length_is(&rt, &[plain(0); 65], &mut labels, &mut work, 64)?;
     assert!(rt;
         !labels[63].read(true, 64) && labels[63].read(true, 63) && labels[64].read(true, 64)
     );
@@ -53,18 +66,9 @@ fn length_of_strips(rt: HostRuntime) -> Result<(), Fail> {
 
 #[test]
 fn length_of_dates(rt: HostRuntime) -> Result<(), Fail> {
-    let table = table_of(&[Formula::Signal(0)])?;
-    let log = [plain(0); 257];
     let mut labels = [Dated::unknown(); 257];
     let mut work = [Dated::unknown(); 257];
-    assert_eq!(rt;
-        told(label_whole(&table, &Rows::new(&log), &mut labels, &mut work)),
-        Err((7, 0))
-    );
-    assert_eq!(rt;
-        told(label_whole(&table, &Rows::new(&log[0..256]), &mut labels, &mut work)),
-        Ok(256)
-    );
+    length_is(&rt, &[plain(0); 257], &mut labels, &mut work, 256)?;
     assert!(rt; labels[255].value() == -1 && labels[256].value() == 0);
     Ok(())
 }

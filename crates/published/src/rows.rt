@@ -31,22 +31,11 @@ impl fmt::Display for Row {
             state,
             label,
         } = *self;
+        write!(f, "states={states} f={formula} s={state} ")?;
         match label {
-            Label::Unknown => write!(f, "states={states} f={formula} s={state} open"),
-            Label::TrueFrom(date) => {
-                let open = open_before(state, date);
-                write!(
-                    f,
-                    "states={states} f={formula} s={state} {open}true from {date}"
-                )
-            }
-            Label::FalseFrom(date) => {
-                let open = open_before(state, date);
-                write!(
-                    f,
-                    "states={states} f={formula} s={state} {open}false from {date}"
-                )
-            }
+            Label::Unknown => write!(f, "open"),
+            Label::TrueFrom(date) => write!(f, "{}true from {date}", open_before(state, date)),
+            Label::FalseFrom(date) => write!(f, "{}false from {date}", open_before(state, date)),
         }
     }
 }

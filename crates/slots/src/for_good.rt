@@ -21,14 +21,14 @@ const CELLS: usize = 30;
 fn calls() -> [Call; CALLS]
     ensures { result ≡ slot_calls }
 {
-    let log = double_free();
+    let [a, b, c, d, e, f] = double_free();
     [
-        Call::Append(log[0]),
-        Call::Append(log[1]),
-        Call::Append(log[2]),
-        Call::Append(log[3]),
-        Call::Append(log[4]),
-        Call::Append(log[5]),
+        Call::Append(a),
+        Call::Append(b),
+        Call::Append(c),
+        Call::Append(d),
+        Call::Append(e),
+        Call::Append(f),
         Call::LabelAt(CONTENT, 1, 2),
         Call::LabelAt(CONTENT, 3, 4),
         Call::StandingAt(RULE, 3, 4),

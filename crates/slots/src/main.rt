@@ -19,7 +19,7 @@ use records::readable::BLANK;
 use records::table::TableRecord;
 use std::io;
 
-// A story that a refusal ends is told so far, and then the number of the refusal, which is all that this program tells of it.
+// A story that a refusal ends is told so far. Of a refusal this program prints the number alone, as docs/FORMATS.md has it.
 fn ended(rt: &HostRuntime, end: Result<(), Stop>) -> io::Result<()> {
     match end {
         Ok(()) => Ok(()),
