@@ -1,6 +1,6 @@
 // The states of a log, the formulas of a table and its rules, as plain values.
 
-// As many states a log has at most.
+// The most states of a log.
 pub const MOST_STATES: usize = 256;
 
 // The last kind of a reference; the first is 1.

@@ -6,7 +6,7 @@ use logic::types::MOST_STATES;
 use table::draft::{MOST_FORMULAS, MOST_RULES};
 use table::finished::Table;
 
-// As many labels a monitor keeps at most.
+// The most labels that a monitor keeps.
 pub(crate) const MOST_LABELS: usize = MOST_FORMULAS * MOST_STATES;
 
 // What a monitor keeps beside its record: the table with its rules, how many states it has labelled, their labels (formula f at

@@ -4,10 +4,10 @@ ghost use Rattle.table.specs.Order.{EachRuled, OrderlyTable-prop};
 
 use logic::types::{Formula, Rule};
 
-// As many formulas a table has at most.
+// The most formulas of a table.
 pub const MOST_FORMULAS: usize = 64;
 
-// As many rules a table has at most.
+// The most rules of a table.
 pub const MOST_RULES: usize = 16;
 
 // A table under construction: up to 64 formulas, of which each is flagged if it is loose, and up to 16 rules. The memory is

@@ -18,7 +18,7 @@ use rulestexts::texts::read_rules_text;
 use std::alloc::{AllocError, Global};
 use table::finished::Table;
 
-// As many bytes an input has at most.
+// The most bytes of an input.
 pub const MOST_BYTES: usize = 32768;
 
 // One line alone.
