@@ -13,6 +13,7 @@ use crate::rows::row_of;
 use labels::LabelKind;
 use logic::types::{Formula, Reference};
 use records::readable::Readable;
+use table::draft::MOST_FORMULAS;
 
 // Formula f, which binds the variable in a part, and the loose formulas which that part is made of.
 #[derive(Drop)]
@@ -20,7 +21,7 @@ struct Binder<'a, R: Readable> {
     job: &'a Job<'a, R>,
     f: usize,
     part: usize,
-    wanted: [bool; 64],
+    wanted: [bool; MOST_FORMULAS],
     ghost within: { f < length job.now.table.now },
     ghost below: { part < f },
     ghost cone: { Cone job.now.table.now wanted f } by { Cone-prop job.now.table.now wanted f },

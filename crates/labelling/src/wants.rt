@@ -7,6 +7,7 @@ ghost use Rattle.labelling.specs.Bound.{Grown, Wanted, Ready, Cone};
 use crate::job::Job;
 use logic::types::Formula;
 use records::readable::Readable;
+use table::draft::MOST_FORMULAS;
 
 // Wants formula x if it is loose.
 fn want(x: usize, flags: &[bool], wanted: &mut [bool])
@@ -32,13 +33,13 @@ fn want_parts(formula: Formula, f: usize, flags: &[bool], wanted: &mut [bool])
 
 impl<'a, R: Readable> Job<'a, R> {
     // The loose formulas that formula a is made of.
-    pub(crate) fn cone(&self, a: usize) -> [bool; 64]
+    pub(crate) fn cone(&self, a: usize) -> [bool; MOST_FORMULAS]
         requires { a < length self.now.table.now }
         ensures cone { Cone self.now.table.now result (length self.now.table.now) }
         ensures ready { Ready self.now.table.now result a }
     {
         // One flag for each formula: fixed memory, for there is no heap.
-        let mut wanted = [false; 64];
+        let mut wanted = [false; MOST_FORMULAS];
         want(a, self.flags, &mut wanted);
         // By number, from a part down to what it is made of. Not `0..=a`, over which the loop's invariant did not close.
         for g in (0..a + 1).rev() {

@@ -9,6 +9,7 @@ use crate::job::Job;
 use crate::rows::clear;
 use labels::LabelKind;
 use lawful::first_unlawful;
+use logic::types::MOST_STATES;
 use records::readable::Readable;
 use refusals::Refusal;
 use table::finished::Table;
@@ -63,7 +64,7 @@ pub fn label_whole<K: LabelKind + Copy, R: Readable>(
     ensures { Answered K.reads K.reach (formulas_of table.now.draft) (R.states log.now) labels.old work.old result labels.new work.new }
 {
     let n = log.count();
-    if n > 256 || n > K::length() {
+    if n > MOST_STATES || n > K::length() {
         return Err(Refusal::TooManyStates);
     }
     let formulas = table.formulas();

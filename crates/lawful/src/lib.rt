@@ -7,7 +7,7 @@ ghost use Rattle.logic.specs.declared.types.State.{State};
 ghost use Rattle.logic.specs.Lawful.{Unfit, NominalTaken, ReferenceUnfit, LawfulRecord};
 ghost use Rattle.lawful.specs.Unlawful.{FirstUnlawful, joined, MayFollow, MayNotFollow};
 
-use logic::types::{Reference, State};
+use logic::types::{MOST_KIND, MOST_STATES, Reference, State};
 use records::readable::Readable;
 use refusals::Refusal;
 
@@ -17,7 +17,7 @@ fn is_unfit(reference: Reference, i: usize) -> bool
     if reference.kind == 0 {
         reference.target > 0
     } else {
-        reference.kind > 15 || reference.target == 0 || usize::from(reference.target) >= i
+        reference.kind > MOST_KIND || reference.target == 0 || usize::from(reference.target) >= i
     }
 }
 
@@ -70,7 +70,7 @@ pub fn next_unlawful<R: Readable>(log: &R, state: State) -> Result<(), Refusal>
     ensures { MatchResult result (λ _. MayFollow (R.states log.now) state) (λ u. MayNotFollow (R.states log.now) state u) }
 {
     let n = log.count();
-    if n >= 256 {
+    if n >= MOST_STATES {
         return Err(Refusal::TooManyStates);
     }
     if is_taken(log, state) {

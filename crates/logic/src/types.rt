@@ -1,5 +1,11 @@
 // The states of a log, the formulas of a table and its rules, as plain values.
 
+// The most states of a log.
+pub const MOST_STATES: usize = 256;
+
+// The last kind of a reference; the first is 1.
+pub const MOST_KIND: u8 = 15;
+
 // A reference of a state to a state: its kind, from 1 to 15, and the number of the state referred to. Kind 0 with target 0 is
 // no reference. (On the shop floor: a link.) Two numbers, and no Option: a log may show kind 0 with a target, which has a
 // refusal of its own.

@@ -18,7 +18,7 @@ use expectations::types::{Notice, Standing, Tally, Verdict};
 use labelling::whole::label_whole;
 use labels::LabelKind;
 use lawful::next_unlawful;
-use logic::types::{Rule, State};
+use logic::types::{MOST_STATES, Rule, State};
 use records::growing::Growing;
 use records::readable::Readable;
 use refusals::Refusal;
@@ -145,7 +145,7 @@ impl<R: Growing> Monitor<R> {
             (λ why. refused_by self.now.book.count (ground_of self.now.book (R.Growing.room self.now.log)) (R.Readable.states self.now.log) (Append state) ≡ Some why) }
     {
         let n = self.own_count()?;
-        if n >= 256 {
+        if n >= MOST_STATES {
             return Err(Refusal::TooManyStates);
         }
         if n >= self.log.capacity() {

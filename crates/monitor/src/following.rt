@@ -3,12 +3,13 @@ ghost use Rattle.std.specs.Prelude.{◌≡◌, ◌≤◌, [], length};
 ghost use Rattle.logic.specs.Lawful.{LawfulRecord};
 ghost use Rattle.monitor.specs.Book.{Right};
 
-use crate::book::Book;
+use crate::book::{Book, MOST_LABELS};
 use expectations::types::Tally;
 use labelling::whole::label_whole;
 use labels::LabelKind;
 use labels::dated::Dated;
 use records::readable::Readable;
+use table::draft::MOST_RULES;
 use table::finished::Table;
 
 impl Book {
@@ -21,9 +22,9 @@ impl Book {
         Book {
             table,
             count: 0,
-            cells: [Dated::unknown(); 16384],
-            work: [Dated::unknown(); 16384],
-            tallies: [Tally::default(); 16],
+            cells: [Dated::unknown(); MOST_LABELS],
+            work: [Dated::unknown(); MOST_LABELS],
+            tallies: [Tally::default(); MOST_RULES],
         }
     }
 

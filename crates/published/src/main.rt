@@ -7,6 +7,7 @@ mod rows;
 
 use crate::asking::label_of;
 use crate::rows::Row;
+use logic::types::MOST_STATES;
 use monitor::live::Monitor;
 use records::growing::Growing;
 use records::readable::{BLANK, Readable};
@@ -99,7 +100,7 @@ fn print_example(rt: &HostRuntime, example: Example) -> io::Result<()> {
     let text = input.as_slice();
     match read_rules_text(text) {
         Ok(rules) => {
-            let mut rows = [BLANK; 256];
+            let mut rows = [BLANK; MOST_STATES];
             let monitor = Monitor::new(rules.value, TableRecord::new(&mut rows));
             follow(rt, example, monitor, TextRecord::new(&text[rules.used..]))
         }

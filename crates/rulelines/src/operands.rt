@@ -2,7 +2,7 @@ ghost use Rattle.std.specs.Prelude.{◌≡◌, Decides};
 ghost use Rattle.rulelines.specs.Operands.{column_a, column_b, Within, meant};
 
 use fields::numbers::NUMBER_LIMIT;
-use logic::types::Formula;
+use logic::types::{Formula, MOST_KIND};
 use words::Operator;
 
 // What one of an operator's two numbers is.
@@ -48,7 +48,7 @@ fn within(operand: Operand, n: u64) -> bool
         Operand::Unused => n == 0,
         Operand::Signal => n <= 31,
         Operand::Nominal => (1..=255).contains(&n),
-        Operand::Kind => (1..=15).contains(&n),
+        Operand::Kind => (1..=u64::from(MOST_KIND)).contains(&n),
         Operand::Part => n <= NUMBER_LIMIT,
     }
 }

@@ -11,13 +11,10 @@ use keys::CountKey;
 use rulelines::counts::read_count;
 use rulelines::formulas::read_formula;
 use rulelines::rules::read_rule;
-use table::draft::Draft;
+use table::draft::{Draft, MOST_FORMULAS, MOST_RULES};
 
-const MOST_FORMULAS: usize = 64;
-
-const MOST_RULES: usize = 16;
-
-// What was read so far: the table under construction, how many lines joined it, and the text that follows them.
+// What was read so far: the table under construction, how many lines joined it, and the text that follows them. The count
+// stands beside the draft, which tells its own to no other crate.
 #[derive(Drop, Clone, Copy)]
 pub(crate) struct Section<'a> {
     pub(crate) draft: Draft,

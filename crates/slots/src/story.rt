@@ -6,14 +6,14 @@ ghost use Rattle.slots.specs.Slots.{ViolatedBefore};
 use crate::rule::RULE;
 use crate::stop::Stop;
 use expectations::types::Standing;
-use logic::types::State;
+use logic::types::{MOST_STATES, State};
 use monitor::live::Monitor;
 use records::growing::Growing;
 use records::readable::Readable;
 use table::finished::Table;
 
-// One rule tells at most one raising and one decision for each of 256 states at a truncation point.
-const MOST_NOTICES: usize = 257;
+// One rule tells at most one raising and one decision for each state at a truncation point.
+const MOST_NOTICES: usize = MOST_STATES + 1;
 
 fn print_notices<R: Growing>(
     rt: &HostRuntime,

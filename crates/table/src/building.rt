@@ -4,9 +4,9 @@ ghost use Rattle.logic.specs.Tables.{InRange, EachPart, Orderly, loose_by, loose
 ghost use Rattle.table.specs.Tables.{number as number_of, formulas_of, rules_of, FormulaAdded, RuleAdded, Finished, Made, MakesTable};
 
 use crate::defects::Defect;
-use crate::draft::Draft;
+use crate::draft::{Draft, MOST_FORMULAS, MOST_RULES};
 use crate::finished::Table;
-use logic::types::{Formula, Rule};
+use logic::types::{Formula, MOST_KIND, Rule};
 
 impl Defect {
     // The number of the refusal, as it is written; two defects share one.
@@ -27,7 +27,7 @@ fn in_range(formula: Formula) -> bool
     match formula {
         Formula::Signal(b) => b < 32,
         Formula::Nominal(a) | Formula::At(a, _) => a > 0,
-        Formula::Reference(kind) | Formula::Some(kind, _) => (1..=15).contains(&kind),
+        Formula::Reference(kind) | Formula::Some(kind, _) => (1..=MOST_KIND).contains(&kind),
         _ => true,
     }
 }
@@ -61,10 +61,10 @@ impl Draft {
         ensures { (formulas_of result ≡ []) × (rules_of result ≡ []) }
     {
         Draft {
-            formulas: [Formula::True; 64],
-            loose: [false; 64],
+            formulas: [Formula::True; MOST_FORMULAS],
+            loose: [false; MOST_FORMULAS],
             count: 0,
-            rules: [Rule::default(); 16],
+            rules: [Rule::default(); MOST_RULES],
             rule_count: 0,
         }
     }
@@ -74,7 +74,7 @@ impl Draft {
         ensures { FormulaAdded self.old formula result self.new }
     {
         let k = self.count;
-        if k >= 64 || !in_range(formula) {
+        if k >= MOST_FORMULAS || !in_range(formula) {
             return Err(Defect::OutOfRange);
         }
         if !parts_below(formula, k) {
@@ -91,7 +91,7 @@ impl Draft {
         ensures { RuleAdded self.old rule result self.new }
     {
         let k = self.rule_count;
-        if k >= 16 {
+        if k >= MOST_RULES {
             return Err(Defect::OutOfRange);
         }
         if rule.condition >= self.count || rule.content >= self.count {

@@ -4,15 +4,21 @@ ghost use Rattle.table.specs.Order.{EachRuled, OrderlyTable-prop};
 
 use logic::types::{Formula, Rule};
 
+// The most formulas of a table.
+pub const MOST_FORMULAS: usize = 64;
+
+// The most rules of a table.
+pub const MOST_RULES: usize = 16;
+
 // A table under construction: up to 64 formulas, of which each is flagged if it is loose, and up to 16 rules. The memory is
 // fixed, without a heap. Flags beside the formulas: a list of pairs would lend no slice of formulas, which labelling takes, and
 // is no plainer.
 #[derive(Drop, Clone, Copy)]
 pub struct Draft {
-    pub(crate) formulas: [Formula; 64],
-    pub(crate) loose: [bool; 64],
+    pub(crate) formulas: [Formula; MOST_FORMULAS],
+    pub(crate) loose: [bool; MOST_FORMULAS],
     pub(crate) count: usize,
-    pub(crate) rules: [Rule; 16],
+    pub(crate) rules: [Rule; MOST_RULES],
     pub(crate) rule_count: usize,
     ghost wide: { length formulas ≡ 64 },
     ghost flags: { length loose ≡ 64 },

@@ -5,19 +5,14 @@ ghost use Rattle.traces.specs.Shown.{state_of};
 use crate::numbers::{Numbers, numbers_of};
 use faults::line::LineFault;
 use fields::lines::{Taken, read_line};
-use logic::types::{Reference, State};
-
-const LAST_STATE: usize = 256;
-
-const LAST_KIND: u64 = 15;
-
-const LAST_TARGET: u64 = 256;
+use logic::types::{MOST_KIND, MOST_STATES, Reference, State};
 
 // The reference of two numbers, if they are in their ranges.
 fn reference_of(kind: u64, target: u64) -> Option<Reference>
     ensures { MatchOption result ((kind ≤ 15) × (target ≤ 256) → ⊥) (λ r. (kind ≤ 15) × (target ≤ 256) × (r.kind ≡ kind) × (r.target ≡ target)) }
 {
-    if kind > LAST_KIND || target > LAST_TARGET {
+    // A cast, as below.
+    if kind > u64::from(MOST_KIND) || target > MOST_STATES as u64 {
         return None;
     }
     Some(Reference {
@@ -31,7 +26,7 @@ fn state_of(v: Numbers, count: usize) -> Option<State>
     ensures { MatchOption result ((v.state ≡ count + 1) × Allowed v.state (state_of v) → ⊥) (λ q. (v.state ≡ count + 1) × Allowed v.state (state_of v) × (q ≡ state_of v)) }
 {
     // A cast, since no `From` leads from `usize` to `u64`.
-    if count >= LAST_STATE || v.state != count as u64 + 1 {
+    if count >= MOST_STATES || v.state != count as u64 + 1 {
         return None;
     }
     Some(State {

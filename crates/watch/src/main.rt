@@ -3,14 +3,14 @@
 
 use std::io;
 use std::io::Read;
-use watch_lib::watch::watch;
-
-// One byte more than the longest input, so that a longer one is known for what it is.
-const ROOM: u64 = 32769;
+use watch_lib::watch::{MOST_BYTES, watch};
 
 fn main(rt: HostRuntime) -> io::Result<()> {
     let mut input = Vec::new(rt.alloc());
-    rt.stdin().take(ROOM).read_to_end(&mut input)?;
+    // One byte more than the longest input, so that a longer one is known for what it is.
+    rt.stdin()
+        .take(MOST_BYTES as u64 + 1)
+        .read_to_end(&mut input)?;
     let lines = watch(rt.alloc(), input.as_slice())?;
     for line in &lines {
         println!(rt; "{line}")?;

@@ -9,6 +9,7 @@ use crate::lines::Line;
 use crate::watcher::Watcher;
 use faults::fault::Fault;
 use fields::lines::Taken;
+use logic::types::MOST_STATES;
 use records::growing::Growing;
 use records::readable::{BLANK, Readable};
 use records::table::TableRecord;
@@ -17,7 +18,8 @@ use rulestexts::texts::read_rules_text;
 use std::alloc::{AllocError, Global};
 use table::finished::Table;
 
-const MOST_BYTES: usize = 32768;
+// The most bytes of an input.
+pub const MOST_BYTES: usize = 32768;
 
 // One line alone.
 fn only(heap: Global, line: Line) -> Result<Vec<Line>, AllocError>
@@ -49,7 +51,7 @@ fn watch_input(heap: Global, input: &[u8]) -> Result<Vec<Line>, AllocError>
 {
     match read_rules_text(input) {
         Ok(rules) => {
-            let mut rows = [BLANK; 256];
+            let mut rows = [BLANK; MOST_STATES];
             watch_log(heap, rules, input, TableRecord::new(&mut rows))
         }
         Err(fault) => only(heap, Line::refused(fault, fault.place())),
