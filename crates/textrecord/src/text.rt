@@ -27,9 +27,8 @@ impl<'a> Readable for TextRecord<'a> {
     }
 
     fn state(&self, i: usize) -> State {
-        let Some(before) = i.checked_sub(1) else {
-            return BLANK;
-        };
-        state_after(self.text, before).unwrap_or(BLANK)
+        i.checked_sub(1)
+            .and_then(|before| state_after(self.text, before))
+            .unwrap_or(BLANK)
     }
 }

@@ -12,6 +12,7 @@ use expectations::types::Tally;
 use records::growing::Growing;
 use records::readable::Readable;
 
+// Not `Add`: the type is another crate's.
 fn plus(a: Tally, b: Tally) -> Tally
     requires few { Few 65536 a }
     requires fewer { Few 256 b }
@@ -41,7 +42,8 @@ impl<R: Growing> Watcher<R> {
         ensures { result ≡ end_line_lem (ground_of self.now.monitor.book (R.Growing.room self.now.monitor.log)) (R.Readable.states self.now.monitor.log) }
     {
         let mut tally = Tally::default();
-        // By number: a monitor is asked for the tally of rule k.
+        // By number: a monitor is asked for the tally of rule k. Not by `fold`: what a sum has to stay below is said in the
+        // loop's invariant, and the closure would need it as a clause of its own.
         for k in 0..self.rules {
             tally = plus(tally, self.tally_of(k));
         }

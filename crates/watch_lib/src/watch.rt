@@ -28,7 +28,8 @@ fn only(heap: Global, line: Line) -> Result<Vec<Line>, AllocError>
     Ok(vec![in heap; line]?)
 }
 
-// The lines of an input whose rules text was read, over an empty record.
+// The lines of an input whose rules text was read, over an empty record. That the input is small bounds the numbers of its
+// lines; it stays a clause of the three functions that hand the text on, since the text is borrowed from the caller.
 fn watch_log<R: Growing + Drop>(
     heap: Global,
     rules: Taken<Table>,
@@ -58,20 +59,13 @@ fn watch_input(heap: Global, input: &[u8]) -> Result<Vec<Line>, AllocError>
     }
 }
 
-// The lines of any input.
-fn watch_any(heap: Global, input: &[u8]) -> Result<Vec<Line>, AllocError>
-    ensures { IfOk result (λ v. Watched input.now v.items) }
-{
-    if input.len() > MOST_BYTES {
-        return only(heap, Line::refused(Refusal::MemoryTooShort, 0));
-    }
-    watch_input(heap, input)
-}
-
 // The lines that are printed of an input: a rules text and trace lines.
 pub fn watch(heap: Global, input: &[u8]) -> Result<Vec<Line>, AllocError>
     ensures lines { IfOk result (λ v. Watched input.now v.items) }
     ensures only { IfOk result (λ v. Only input.now v.items) }
 {
-    watch_any(heap, input)
+    if input.len() > MOST_BYTES {
+        return only(heap, Line::refused(Refusal::MemoryTooShort, 0));
+    }
+    watch_input(heap, input)
 }
