@@ -1,3 +1,4 @@
 pub mod Tests
 pub mod Answers
 pub mod Law
+pub mod Texts

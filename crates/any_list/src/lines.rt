@@ -17,13 +17,8 @@ const STATES: usize = 4;
 
 fn print_answer(rt: &HostRuntime, answer: Result<Answer, Refusal>) -> io::Result<()> {
     match answer {
+        Ok(answer) => println!(rt; "{answer}"),
         Err(refusal) => println!(rt; "{refusal}"),
-        Ok(Answer::Number(number)) => println!(rt; "state={number}"),
-        Ok(Answer::Reads(verdict)) => println!(rt; "reads={verdict}"),
-        Ok(Answer::Stands(standing)) => println!(rt; "stands={standing} date={}", standing.date()),
-        Ok(Answer::Counts(tally)) => println!(rt; "{tally}"),
-        Ok(Answer::Tells(Some(notice))) => println!(rt; "{notice}"),
-        Ok(Answer::Tells(None)) => println!(rt; "no more"),
     }
 }
 

@@ -47,7 +47,7 @@ pub fn referring_second(kind: u8, target: u16) -> State
     }
 }
 
-// The answer, or the refusal's number and place.
+// The answer, or the refusal's number and place. By number and place, since these are what is written and what the tests hold.
 pub fn told<T: Drop>(answer: Result<T, Refusal>) -> Result<T, (u8, usize)>
     ensures { result ≡ in_numbers answer }
 {

@@ -1,5 +1,5 @@
-// What a monitor tells while a log grows, in lines of text. As `watch` writes its lines; `slots` does not stand on `watch_lib`,
-// which brings all readers of texts.
+// What a monitor tells while a log grows, in lines of text. Notices and the end line are written here as `watch` writes its
+// lines: `slots` does not stand on `watch_lib`, which brings all readers of texts.
 ghost use Rattle.std.specs.Prelude.{Decides};
 ghost use Rattle.slots.specs.Slots.{ViolatedBefore};
 

@@ -1,4 +1,4 @@
-// What a test asks of a reader.
+// What a test asks of a reader. Refusals by number and place, since these are what is written and what the tests hold.
 use faults::fault::Fault;
 use faults::layer::Layer;
 use rulestexts::texts::read_rules_text;
@@ -20,20 +20,15 @@ pub fn all_refused(rt: &impl Abort, texts: &[&[u8]], count: usize, number: u8) {
     }
 }
 
-// Each rules text is refused with a number at a line.
-pub fn all_stopped(rt: &impl Abort, texts: &[&[u8]], number: u8, line: usize) {
+// Each rules text is refused by a layer, with a number at a line.
+pub fn all_stopped(rt: &impl Abort, texts: &[&[u8]], layer: Layer, number: u8, line: usize) {
     for text in texts {
-        stopped(rt, text, number, line);
+        stopped(rt, text, layer, number, line);
     }
 }
 
-// The rules text is refused with a number at a line, by the layer of lines for 1 to 3 and that of tables for 4 and 5.
-pub fn stopped(rt: &impl Abort, text: &[u8], number: u8, line: usize) {
-    let layer = if number > 3 {
-        Layer::Table
-    } else {
-        Layer::Line
-    };
+// The rules text is refused by a layer, with a number at a line.
+pub fn stopped(rt: &impl Abort, text: &[u8], layer: Layer, number: u8, line: usize) {
     let refusal = read_rules_text(text)
         .err()
         .map(|fault| (fault.number(), fault.place(), fault.layer()));

@@ -1,5 +1,6 @@
 // Rules texts that are taken, and those that end too soon.
 use crate::asks::stopped;
+use faults::layer::Layer;
 use logic::types::Formula;
 use rulestexts::texts::read_rules_text;
 use std::process::Abort;
@@ -37,10 +38,10 @@ fn last_formula(rt: HostRuntime) {
 // A missing line is a torn one.
 #[test]
 fn ends_after_each_line(rt: HostRuntime) {
-    stopped(&rt, &WHOLE[0..0], 1, 1);
-    stopped(&rt, &WHOLE[0..11], 1, 2);
-    stopped(&rt, &WHOLE[0..33], 1, 3);
-    stopped(&rt, &WHOLE[0..55], 1, 4);
-    stopped(&rt, &WHOLE[0..75], 1, 5);
-    stopped(&rt, &WHOLE[0..83], 1, 6);
+    stopped(&rt, &WHOLE[0..0], Layer::Line, 1, 1);
+    stopped(&rt, &WHOLE[0..11], Layer::Line, 1, 2);
+    stopped(&rt, &WHOLE[0..33], Layer::Line, 1, 3);
+    stopped(&rt, &WHOLE[0..55], Layer::Line, 1, 4);
+    stopped(&rt, &WHOLE[0..75], Layer::Line, 1, 5);
+    stopped(&rt, &WHOLE[0..83], Layer::Line, 1, 6);
 }
