@@ -6,7 +6,7 @@ use crate::types::{Event, Notice, Standing, Tally, Verdict};
 use std::fmt;
 
 impl Verdict {
-    // A word is lent as it is, here and below, to a caller that writes by itself; `Display` is made of it.
+    // Beside `Display`, which is made of it, here and below: a caller may want the word itself, and no public function goes.
     pub fn word(self) -> &'static str
         ensures { result.now ≡ (of_verdict self).word }
     {

@@ -8,7 +8,7 @@ use crate::layer::Layer;
 pub trait Fault: Sized {
     ghost told: { Self → Refusal };
 
-    // The number of the refusal, as texts and output write it; a caller that decides matches on the cases.
+    // The number of the refusal, as output writes it; a caller that decides matches on the cases.
     fn number(self) -> u8
         ensures { result ≡ (told self).number };
 

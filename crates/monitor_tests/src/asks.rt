@@ -84,7 +84,7 @@ pub fn adds_up<R: Growing>(rt: &impl Abort, monitor: &Monitor<R>, rule: usize) -
     Ok(())
 }
 
-// A formula or a rule, a state and a point, and the number with which a query of them is refused.
+// A formula or a rule, a state and a point, and the number with which a query of them is refused. By number, as `told` has it.
 pub type Ask = (usize, usize, usize, u8);
 
 // Each query is refused with its number, at place 0.

@@ -11,7 +11,7 @@ use sample_states::{plain, referring};
 use std::process::Abort;
 use std::test::Fail;
 
-// So many states are accepted, and then each is refused with a number, at place 0.
+// So many states are accepted, and then each is refused with a number, at place 0. By number, as `told` has it.
 fn stops<R: Growing + Drop>(
     rt: &impl Abort,
     log: R,

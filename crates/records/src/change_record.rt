@@ -6,10 +6,13 @@ use crate::growing::{Full, Growing};
 use crate::readable::Readable;
 use logic::types::State;
 
+// How many states there is room for.
+const MOST_CHANGES: usize = 64;
+
 // An array with a count, since a record has fixed memory and no heap.
 #[derive(Drop)]
 pub struct ChangeRecord {
-    changes: [Change; 64],
+    changes: [Change; MOST_CHANGES],
     count: usize,
     ghost places: { length changes ≡ 64 },
     ghost fits: { count ≤ 64 },
@@ -23,7 +26,7 @@ impl ChangeRecord {
         ensures room { change_room result ≡ 64 }
     {
         ChangeRecord {
-            changes: [Change::default(); 64],
+            changes: [Change::default(); MOST_CHANGES],
             count: 0,
         }
     }

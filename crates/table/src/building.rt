@@ -6,10 +6,10 @@ ghost use Rattle.table.specs.Tables.{number as number_of, formulas_of, rules_of,
 use crate::defects::Defect;
 use crate::draft::{Draft, MOST_FORMULAS, MOST_RULES};
 use crate::finished::Table;
-use logic::types::{Formula, MOST_KIND, Rule};
+use logic::types::{Formula, MOST_KIND, Rule, SIGNALS};
 
 impl Defect {
-    // The number of the refusal, as it is written; two defects share one.
+    // The number of the refusal, as output writes it; two defects share one, so that callers match on the cases.
     pub fn number(self) -> u8
         ensures { result ≡ number_of self }
     {
@@ -25,7 +25,7 @@ fn in_range(formula: Formula) -> bool
     ensures { Decides result (InRange formula) }
 {
     match formula {
-        Formula::Signal(b) => b < 32,
+        Formula::Signal(b) => b < SIGNALS,
         Formula::Nominal(a) | Formula::At(a, _) => a > 0,
         Formula::Reference(kind) | Formula::Some(kind, _) => (1..=MOST_KIND).contains(&kind),
         _ => true,

@@ -7,7 +7,8 @@ use watch_lib::watch::{MOST_BYTES, watch};
 
 fn main(rt: HostRuntime) -> io::Result<()> {
     let mut input = Vec::new(rt.alloc());
-    // One byte more than the longest input, so that a longer one is known for what it is.
+    // One byte more than the longest input, so that a longer one is known for what it is. A cast, since no `From` leads from
+    // `usize` to `u64`.
     rt.stdin()
         .take(MOST_BYTES as u64 + 1)
         .read_to_end(&mut input)?;

@@ -18,7 +18,7 @@ impl fmt::Display for Line {
     }
 }
 
-// The text of a line, without a line end.
+// The text of a line, without a line end, for a caller that keeps it; programs write a line by `Display`.
 pub fn text_of(heap: Global, line: Line) -> Result<String, AllocError>
     ensures { IfOk result (λ s. string_bytes s ≡ line_text line) }
 {
