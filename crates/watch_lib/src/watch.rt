@@ -60,6 +60,7 @@ fn watch_input(heap: Global, input: &[u8]) -> Result<Vec<Line>, AllocError>
 }
 
 // The lines that are printed of an input: a rules text and trace lines.
+#[tactic(auto, using(crate::proofs::Unique::one_output))]
 pub fn watch(heap: Global, input: &[u8]) -> Result<Vec<Line>, AllocError>
     ensures lines { IfOk result (λ v. Watched input.now v.items) }
     ensures only { IfOk result (λ v. Only input.now v.items) }
