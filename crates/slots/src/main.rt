@@ -9,10 +9,12 @@ mod rule;
 mod stop;
 mod story;
 
+use crate::for_good::violated_for_good;
 use crate::log::double_free;
-use crate::rule::slot_table;
+use crate::rule::{RULE, slot_table};
 use crate::stop::Stop;
 use crate::story::story;
+use answers::types::Answer;
 use faults::fault::Fault;
 use records::change_record::ChangeRecord;
 use records::readable::BLANK;
@@ -28,6 +30,21 @@ fn ended(rt: &HostRuntime, end: Result<(), Stop>) -> io::Result<()> {
     }
 }
 
+// Tells the last of the answers for which the law of runs vouches: what the last state says of the slot of state 3. By that law
+// it is so for good.
+fn print_for_good(rt: &HostRuntime) -> io::Result<()> {
+    let [.., last] = match violated_for_good() {
+        Ok(answers) => answers,
+        Err(defect) => return println!(rt; "{defect}"),
+    };
+    // It is a standing: the contract tells each of the answers.
+    if let Ok(Answer::Stands(standing)) = last {
+        let date = standing.date();
+        println!(rt; "r={RULE} from=3 {standing} at {date} for good")?;
+    }
+    Ok(())
+}
+
 fn main(rt: HostRuntime) -> io::Result<()> {
     let table = match slot_table() {
         Ok(table) => table,
@@ -38,5 +55,6 @@ fn main(rt: HostRuntime) -> io::Result<()> {
     println!(rt; "record=table")?;
     ended(&rt, story(&rt, table, TableRecord::new(&mut rows), &log))?;
     println!(rt; "record=changes")?;
-    ended(&rt, story(&rt, table, ChangeRecord::new(), &log))
+    ended(&rt, story(&rt, table, ChangeRecord::new(), &log))?;
+    print_for_good(&rt)
 }
