@@ -1,12 +1,18 @@
 -- Formulas without parts. Assumes nothing.
-use Rattle.std.proofs.Common.{◌≡◌, ℕ, Bool, true, false, sym, refl}
+use Rattle.std.proofs.Common.{◌≡◌, ℕ, ◌+◌, ◌-◌, ◌<◌, ◌≤◌, min, Bool, true, false, List, [], ◌∷◌, length, Decides, sym, refl, ap, ◌∙◌, subst, arith}
+use Rattle.std.proofs.lemmas.Bool.Decides.{Decides-at, Decides-like}
+use Rattle.labels.specs.Readings.{Reading}
+use Rattle.labelling.specs.Rows.{cell, at}
+use Rattle.labelling.proofs.Cells.{cell_at}
+use Rattle.labelling.proofs.Decisions.{fixed_decides}
+use Rattle.labelling.proofs.Tellings.{tells_decided}
 use Rattle.std.proofs.lemmas.Bool.{false≢true}
 use Rattle.logic.specs.declared.types.Formula.{Formula}
 use Rattle.logic.specs.declared.types.Formula.TheVariants.{True, Signal, Nominal, Not, And, Or, Next, Previous, Until, Since, At, Variable, Reference, Bind, Some}
 use Rattle.logic.specs.States.{Trace}
 use Rattle.logic.specs.Logic.{Tree, Kept, Reads}
 use Rattle.logic.specs.Tables.{node, binds}
-use Rattle.labelling.specs.Tells.{leaf, Here}
+use Rattle.labelling.specs.Tells.{leaf, Here, Tells, DecidedRow}
 
 module _ (s : Trace) (v : ℕ) (parts : ℕ → Tree) (r : Bool) (c i : ℕ) where
   pub leaf_in : (φ : Formula) → leaf φ ≡ true → Kept r c i (Here φ (s i) v i) → Reads r s c v i (node φ parts)
@@ -62,3 +68,24 @@ leaf_rest Variable b h1 h2 h3 h4 h5 h6 h7 h8 = refl
 leaf_rest (Reference a) b h1 h2 h3 h4 h5 h6 h7 h8 = refl
 leaf_rest (Bind f) b h1 h2 h3 h4 h5 h6 h7 h8 = absurd (false≢true (sym b))
 leaf_rest (Some a f) b h1 h2 h3 h4 h5 h6 h7 h8 = absurd (false≢true (sym b))
+
+-- A row whose labels are decided at their own states, as answers say that decide a formula without parts, tells of it.
+module _ {K : Type 0} (reads : K → Reading) (reach n : ℕ) (s : Trace) (v : ℕ) (φ ψ : Formula) (is : φ ≡ ψ) (is-leaf : leaf ψ ≡ true) (Answers : ℕ → Bool → Type 0)
+    (right : (i : ℕ) (b : Bool) → 0 < i → Answers i b → Decides b (Here ψ (s i) v i)) where
+  label_decides : (own : List K) → length own ≡ n → DecidedRow reads reach Answers own → (parts : ℕ → Tree) (q : ℕ) (e : Bool) (c : ℕ)
+      → q < n → 0 < c → c ≤ reach → Decides (at reads own (q + 1) e c) (Reads e s (min c n) v (q + 1) (node ψ parts))
+  label_decides [] long row parts q e c less lo hi = absurd (omega arith)
+  label_decides (x ∷ xs) long row parts q e c less lo hi =
+      let own = x ∷ xs in
+      let t = row q x (omega arith) in
+      let X = Here ψ (s (q + 1)) v (q + 1) in
+      Decides-at _ _ (ap (λ p. cell reads own p e c) (omega arith) ∙ cell_at reads own q x (omega arith) e c ∙ t.2 e c lo hi)
+      (Decides-like _ (leaf_in s v parts e (min c n) (q + 1) ψ is-leaf) (leaf_out s v parts e (min c n) (q + 1) ψ is-leaf)
+      (fixed_decides n (q + 1) t.0 e c X (omega arith) (right (q + 1) t.0 (omega arith) t.1)))
+
+  pub decided_tells : (own : List K) → length own ≡ n → DecidedRow reads reach Answers own → (parts : ℕ → Tree) → Tells reads reach n s v (node φ parts) own
+  decided_tells own long row parts =
+      subst (λ f. Tells reads reach n s v (node f parts) own) (sym is)
+      (tells_decided reads reach n s v own long (node ψ parts)
+      (λ i e c pos le lo hi.
+      subst (λ j. Decides (at reads own j e c) (Reads e s (min c n) v j (node ψ parts))) (omega arith) (label_decides own long row parts (i - 1) e c (omega arith) lo hi)))

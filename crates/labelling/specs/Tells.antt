@@ -1,6 +1,6 @@
 -- Rows of labels that tell of formulas.
-use Rattle.std.specs.Prelude.{◌≡◌, ℕ, ◌<◌, ◌≤◌, min, Bool, true, false, List, Option, Decides, MatchOption}
-use Rattle.labels.specs.Readings.{Reading}
+use Rattle.std.specs.Prelude.{◌≡◌, ℕ, ◌+◌, ◌<◌, ◌≤◌, min, Bool, true, false, List, length, Option, Decides, MatchOption, slice_index_or}
+use Rattle.labels.specs.Readings.{Reading, Same, fixed}
 use Rattle.logic.specs.declared.types.State.{State}
 use Rattle.logic.specs.declared.types.Formula.{Formula}
 use Rattle.logic.specs.declared.types.Formula.TheVariants.{True, Signal, Nominal, Not, And, Or, Next, Previous, Until, Since, At, Variable, Reference, Bind, Some}
@@ -13,6 +13,10 @@ use Rattle.labelling.specs.Rows.{at}
 -- and past the row, as past the point, a formula is unknown.
 abbrev pub Tells : {K : Type 0} → (K → Reading) → (reach n : ℕ) → Trace → (v : ℕ) → Tree → List K → Type 0
 Tells reads reach n s v φ xs = (e : Bool) (c i : ℕ) → 0 < c → c ≤ reach → 0 < i → Decides (at reads xs i e c) (Reads e s (min c n) v i φ)
+
+-- each label of a row is decided from its own state on, as one of the answers for that state says
+abbrev pub DecidedRow : {K : Type 0} → (K → Reading) → (reach : ℕ) → (Answers : (i : ℕ) → Bool → Type 0) → List K → Type 0
+DecidedRow {K} reads reach Answers xs = (p : ℕ) (d : K) → p < length xs → (b : Bool) × Answers (p + 1) b × Same reach (reads (slice_index_or xs p d)) (fixed (p + 1) b)
 
 -- of the first n states, the one that carries nominal a, if there is one
 abbrev pub NamedState : Trace → (n a : ℕ) → Option ℕ → Type 0

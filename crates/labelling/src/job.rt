@@ -4,14 +4,14 @@ ghost use Rattle.labels.specs.Readings.{Same, fixed};
 ghost use Rattle.logic.specs.declared.types.Formula.TheVariants.{True};
 ghost use Rattle.logic.specs.States.{state_at};
 ghost use Rattle.logic.specs.Lawful.{LawfulTo};
-ghost use Rattle.logic.specs.Logic.{Tree, Refers};
+ghost use Rattle.logic.specs.Logic.{Tree, Shows, Carries, Refers};
 ghost use Rattle.logic.specs.Tables.{node, tree, binds, EachPart, InRange, OrderlyTable, Flagged};
 ghost use Rattle.labelling.specs.Rows.{row};
 ghost use Rattle.table.specs.Order.{OrderlyTable-prop};
-ghost use Rattle.labelling.specs.Tells.{Tells, NamedState, Here, leaf};
+ghost use Rattle.labelling.specs.Tells.{Tells, NamedState, DecidedRow, leaf};
 
 use crate::rows::{
-    label_and, label_named, label_next, label_not, label_or, label_previous, label_since,
+    fill_row, label_and, label_named, label_next, label_not, label_or, label_previous, label_since,
     label_until, row_of,
 };
 use labels::LabelKind;
@@ -49,21 +49,6 @@ fn refers(state: State, kind: u8, v: usize) -> bool
         || (state.second.kind == kind && usize::from(state.second.target) == v)
 }
 
-// Whether a formula without parts holds in state i.
-fn holds_here<R: Readable>(log: &R, formula: Formula, v: usize, i: usize) -> bool
-    requires { InRange formula }
-    ensures { Decides result (Here formula (state_at (R.states log.now) i) v i) }
-{
-    match formula {
-        Formula::True => true,
-        Formula::Signal(b) => is_on(log.state(i).signals, b),
-        Formula::Nominal(a) => log.state(i).nominal == a,
-        Formula::Variable => i == v,
-        Formula::Reference(kind) => refers(log.state(i), kind, v),
-        _ => false,
-    }
-}
-
 // The label that is decided from point i on.
 fn decided<K: LabelKind>(value: bool, i: usize) -> K
     ensures { Same K.reach (K.reads result) (fixed i value) }
@@ -75,15 +60,63 @@ fn decided<K: LabelKind>(value: bool, i: usize) -> K
     }
 }
 
+// Fills a row with labels that are decided at their own states, as `holds` says of each state.
+fn decide_row<K: LabelKind + Copy, F: Fn(usize) -> bool>(own: &mut [K], holds: F)
+    requires callable { (i : ℕ) → 1 ≤ i → i ≤ length own.old → F.pre holds i }
+    ensures decided { DecidedRow K.reads K.reach (F.post holds) own.new }
+{
+    fill_row(
+        own,
+        |p|
+            requires { (p + 1 < 2 ^ 64) × F.pre holds (p + 1) }
+            ensures { (b : Bool) × F.post holds (p + 1) b × Same K.reach (K.reads result) (fixed (p + 1) b) }
+        { decided(holds(p + 1), p + 1) },
+    );
+}
+
 impl<'a, R: Readable> Job<'a, R> {
-    // Labels a formula without parts.
+    // Labels a formula without parts. The case is chosen once for the row, and not for each of its states.
     fn label_here<K: LabelKind + Copy>(&self, formula: Formula, v: usize, own: &mut [K])
         requires known { InRange formula × (leaf formula ≡ true) }
         requires long { length own.old ≡ self.now.n }
         ensures told { (parts : ℕ → Tree) → Tells K.reads K.reach self.now.n (state_at (R.states self.now.log.now)) v (node formula parts) own.new }
     {
-        for (p, cell) in own.iter_mut().enumerate() {
-            *cell = decided(holds_here(self.log, formula, v, p + 1), p + 1);
+        let log = self.log;
+        match formula {
+            Formula::True => decide_row(
+                own,
+                |_|
+                    ensures { result ≡ true }
+                { true },
+            ),
+            Formula::Signal(b) => decide_row(
+                own,
+                |i|
+                    requires { b < 32 }
+                    ensures { Decides result (Shows (state_at (R.states log.entry.now) i) b) }
+                { is_on(log.state(i).signals, b) },
+            ),
+            Formula::Nominal(a) => decide_row(
+                own,
+                |i|
+                    requires { 0 < a }
+                    ensures { Decides result (Carries (state_at (R.states log.entry.now) i) a) }
+                { log.state(i).nominal == a },
+            ),
+            Formula::Variable => decide_row(
+                own,
+                |i|
+                    ensures { Decides result (i ≡ v) }
+                { i == v },
+            ),
+            Formula::Reference(kind) => decide_row(
+                own,
+                |i|
+                    requires { 0 < kind }
+                    ensures { Decides result (Refers (state_at (R.states log.entry.now) i) kind v) }
+                { refers(log.state(i), kind, v) },
+            ),
+            _ => {}
         }
     }
 

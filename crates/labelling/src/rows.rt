@@ -28,7 +28,7 @@ pub(crate) fn clear<K: LabelKind + Copy>(cells: &mut [K])
 }
 
 // Fills a row with the label of each place.
-fn fill_row<K: Copy, F: Fn(usize) -> K>(own: &mut [K], label: F)
+pub(crate) fn fill_row<K: Copy, F: Fn(usize) -> K>(own: &mut [K], label: F)
     requires callable { (p : ℕ) → p < length own.old → F.pre label p }
     ensures filled { (p : ℕ) (d : K) → p < length own.old → F.post label p (slice_index_or own.new p d) }
 {
