@@ -71,7 +71,7 @@ leaf_rest (Some a f) b h1 h2 h3 h4 h5 h6 h7 h8 = absurd (false≢true (sym b))
 
 -- A row whose labels are decided at their own states, as answers say that decide a formula without parts, tells of it.
 module _ {K : Type 0} (reads : K → Reading) (reach n : ℕ) (s : Trace) (v : ℕ) (φ ψ : Formula) (is : φ ≡ ψ) (is-leaf : leaf ψ ≡ true) (Answers : ℕ → Bool → Type 0)
-    (right : (i : ℕ) (b : Bool) → 0 < i → Answers i b → Decides b (Here ψ (s i) v i)) where
+    (right : (p : ℕ) (b : Bool) → Answers p b → Decides b (Here ψ (s (p + 1)) v (p + 1))) where
   label_decides : (own : List K) → length own ≡ n → DecidedRow reads reach Answers own → (parts : ℕ → Tree) (q : ℕ) (e : Bool) (c : ℕ)
       → q < n → 0 < c → c ≤ reach → Decides (at reads own (q + 1) e c) (Reads e s (min c n) v (q + 1) (node ψ parts))
   label_decides [] long row parts q e c less lo hi = absurd (omega arith)
@@ -81,7 +81,7 @@ module _ {K : Type 0} (reads : K → Reading) (reach n : ℕ) (s : Trace) (v : �
       let X = Here ψ (s (q + 1)) v (q + 1) in
       Decides-at _ _ (ap (λ p. cell reads own p e c) (omega arith) ∙ cell_at reads own q x (omega arith) e c ∙ t.2 e c lo hi)
       (Decides-like _ (leaf_in s v parts e (min c n) (q + 1) ψ is-leaf) (leaf_out s v parts e (min c n) (q + 1) ψ is-leaf)
-      (fixed_decides n (q + 1) t.0 e c X (omega arith) (right (q + 1) t.0 (omega arith) t.1)))
+      (fixed_decides n (q + 1) t.0 e c X (omega arith) (right q t.0 t.1)))
 
   pub decided_tells : (own : List K) → length own ≡ n → DecidedRow reads reach Answers own → (parts : ℕ → Tree) → Tells reads reach n s v (node φ parts) own
   decided_tells own long row parts =

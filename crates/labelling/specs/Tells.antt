@@ -14,9 +14,9 @@ use Rattle.labelling.specs.Rows.{at}
 abbrev pub Tells : {K : Type 0} → (K → Reading) → (reach n : ℕ) → Trace → (v : ℕ) → Tree → List K → Type 0
 Tells reads reach n s v φ xs = (e : Bool) (c i : ℕ) → 0 < c → c ≤ reach → 0 < i → Decides (at reads xs i e c) (Reads e s (min c n) v i φ)
 
--- each label of a row is decided from its own state on, as one of the answers for that state says
-abbrev pub DecidedRow : {K : Type 0} → (K → Reading) → (reach : ℕ) → (Answers : (i : ℕ) → Bool → Type 0) → List K → Type 0
-DecidedRow {K} reads reach Answers xs = (p : ℕ) (d : K) → p < length xs → (b : Bool) × Answers (p + 1) b × Same reach (reads (slice_index_or xs p d)) (fixed (p + 1) b)
+-- each label of a row is decided from its own state on, as an answer for its place says
+abbrev pub DecidedRow : {K : Type 0} → (K → Reading) → (reach : ℕ) → (Answers : (p : ℕ) → Bool → Type 0) → List K → Type 0
+DecidedRow {K} reads reach Answers xs = (p : ℕ) (d : K) → p < length xs → (b : Bool) × Answers p b × Same reach (reads (slice_index_or xs p d)) (fixed (p + 1) b)
 
 -- of the first n states, the one that carries nominal a, if there is one
 abbrev pub NamedState : Trace → (n a : ℕ) → Option ℕ → Type 0

@@ -12,13 +12,12 @@ use crate::job::Job;
 use crate::rows::row_of;
 use labels::LabelKind;
 use logic::types::{Formula, Reference};
-use records::readable::Readable;
 use table::draft::MOST_FORMULAS;
 
 // Formula f, which binds the variable in a part, and the loose formulas which that part is made of.
 #[derive(Drop)]
-struct Binder<'a, R: Readable> {
-    job: &'a Job<'a, R>,
+struct Binder<'a> {
+    job: &'a Job<'a>,
     f: usize,
     part: usize,
     wanted: [bool; MOST_FORMULAS],
@@ -29,12 +28,12 @@ struct Binder<'a, R: Readable> {
 }
 
 // What the cells of the formulas before tell stands in the clauses, since they are lent to each call.
-impl<'a, R: Readable> Binder<'a, R> {
+impl<'a> Binder<'a> {
     // Labels the wanted formulas, which are loose, with the variable bound to v.
     fn label_bound<K: LabelKind + Copy>(&self, v: usize, before: &mut [K])
         requires room { length before.old ≡ self.now.f * self.now.job.now.n }
-        requires known { ClosedTold K.reads K.reach self.now.job.now.n (state_at (R.states self.now.job.now.log.now)) self.now.job.now.table.now before.old self.now.f }
-        ensures told { AllTold K.reads K.reach self.now.job.now.n (state_at (R.states self.now.job.now.log.now)) self.now.job.now.table.now self.now.wanted v before.new self.now.f }
+        requires known { ClosedTold K.reads K.reach self.now.job.now.n (state_at self.now.job.now.states.now) self.now.job.now.table.now before.old self.now.f }
+        ensures told { AllTold K.reads K.reach self.now.job.now.n (state_at self.now.job.now.states.now) self.now.job.now.table.now self.now.wanted v before.new self.now.f }
     {
         let n = self.job.n;
         for (g, wanted) in self.wanted[..self.f].iter().enumerate() {
@@ -48,9 +47,9 @@ impl<'a, R: Readable> Binder<'a, R> {
     // Labels the formula, a `bind`.
     fn label_bind<K: LabelKind + Copy>(&self, before: &mut [K], own: &mut [K])
         requires room { (length before.old ≡ self.now.f * self.now.job.now.n) × (length own.old ≡ self.now.job.now.n) }
-        requires known { ClosedTold K.reads K.reach self.now.job.now.n (state_at (R.states self.now.job.now.log.now)) self.now.job.now.table.now before.old self.now.f }
-        ensures known { ClosedTold K.reads K.reach self.now.job.now.n (state_at (R.states self.now.job.now.log.now)) self.now.job.now.table.now before.new self.now.f }
-        ensures told { (v : ℕ) → Tells K.reads K.reach self.now.job.now.n (state_at (R.states self.now.job.now.log.now)) v (bind (tree self.now.job.now.table.now self.now.part)) own.new }
+        requires known { ClosedTold K.reads K.reach self.now.job.now.n (state_at self.now.job.now.states.now) self.now.job.now.table.now before.old self.now.f }
+        ensures known { ClosedTold K.reads K.reach self.now.job.now.n (state_at self.now.job.now.states.now) self.now.job.now.table.now before.new self.now.f }
+        ensures told { (v : ℕ) → Tells K.reads K.reach self.now.job.now.n (state_at self.now.job.now.states.now) v (bind (tree self.now.job.now.table.now self.now.part)) own.new }
     {
         // By place: for each state the part's row is filled anew, and its label is read at that state.
         for (p, cell) in own.iter_mut().enumerate() {
@@ -71,9 +70,9 @@ impl<'a, R: Readable> Binder<'a, R> {
     ) -> K
         requires fit { p < self.now.job.now.n }
         requires room { length before.old ≡ self.now.f * self.now.job.now.n }
-        requires known { ClosedTold K.reads K.reach self.now.job.now.n (state_at (R.states self.now.job.now.log.now)) self.now.job.now.table.now before.old self.now.f }
-        ensures known { ClosedTold K.reads K.reach self.now.job.now.n (state_at (R.states self.now.job.now.log.now)) self.now.job.now.table.now before.new self.now.f }
-        ensures told { (e : Bool) (c : ℕ) → 0 < c → c ≤ K.reach → Decides (K.reads result e c) ((K.reads so_far e c ≡ true) ⊎ Through (state_at (R.states self.now.job.now.log.now)) (tree self.now.job.now.table.now self.now.part) kind reference (p + 1) e (min c self.now.job.now.n)) }
+        requires known { ClosedTold K.reads K.reach self.now.job.now.n (state_at self.now.job.now.states.now) self.now.job.now.table.now before.old self.now.f }
+        ensures known { ClosedTold K.reads K.reach self.now.job.now.n (state_at self.now.job.now.states.now) self.now.job.now.table.now before.new self.now.f }
+        ensures told { (e : Bool) (c : ℕ) → 0 < c → c ≤ K.reach → Decides (K.reads result e c) ((K.reads so_far e c ≡ true) ⊎ Through (state_at self.now.job.now.states.now) (tree self.now.job.now.table.now self.now.part) kind reference (p + 1) e (min c self.now.job.now.n)) }
     {
         if reference.kind != kind {
             return so_far;
@@ -86,12 +85,12 @@ impl<'a, R: Readable> Binder<'a, R> {
     fn label_some<K: LabelKind + Copy>(&self, kind: u8, before: &mut [K], own: &mut [K])
         requires kind { 0 < kind }
         requires room { (length before.old ≡ self.now.f * self.now.job.now.n) × (length own.old ≡ self.now.job.now.n) }
-        requires known { ClosedTold K.reads K.reach self.now.job.now.n (state_at (R.states self.now.job.now.log.now)) self.now.job.now.table.now before.old self.now.f }
-        ensures known { ClosedTold K.reads K.reach self.now.job.now.n (state_at (R.states self.now.job.now.log.now)) self.now.job.now.table.now before.new self.now.f }
-        ensures told { (v : ℕ) → Tells K.reads K.reach self.now.job.now.n (state_at (R.states self.now.job.now.log.now)) v (some' kind (tree self.now.job.now.table.now self.now.part)) own.new }
+        requires known { ClosedTold K.reads K.reach self.now.job.now.n (state_at self.now.job.now.states.now) self.now.job.now.table.now before.old self.now.f }
+        ensures known { ClosedTold K.reads K.reach self.now.job.now.n (state_at self.now.job.now.states.now) self.now.job.now.table.now before.new self.now.f }
+        ensures told { (v : ℕ) → Tells K.reads K.reach self.now.job.now.n (state_at self.now.job.now.states.now) v (some' kind (tree self.now.job.now.table.now self.now.part)) own.new }
     {
         for (p, cell) in own.iter_mut().enumerate() {
-            let state = self.job.log.state(p + 1);
+            let state = self.job.states[p];
             let none = K::false_from(p + 1);
             let one = self.label_through(p, kind, state.first, none, before);
             *cell = self.label_through(p, kind, state.second, one, before);
@@ -99,9 +98,9 @@ impl<'a, R: Readable> Binder<'a, R> {
     }
 }
 
-impl<'a, R: Readable> Job<'a, R> {
+impl<'a> Job<'a> {
     // Formula f, which binds the variable in a part, with the loose formulas that the part is made of.
-    fn binder(&self, f: usize, part: usize) -> Binder<'_, R>
+    fn binder(&self, f: usize, part: usize) -> Binder<'_>
         requires { (f < length self.now.table.now) × (part < f) }
         ensures { (result.job.now ≡ self.now) × (result.f ≡ f) × (result.part ≡ part) }
     {
@@ -117,9 +116,9 @@ impl<'a, R: Readable> Job<'a, R> {
     fn label_closed<K: LabelKind + Copy>(&self, f: usize, before: &mut [K], own: &mut [K])
         requires fit { (f < length self.now.table.now) × (loose self.now.table.now f ≡ false) }
         requires room { (length before.old ≡ f * self.now.n) × (length own.old ≡ self.now.n) }
-        requires known { ClosedTold K.reads K.reach self.now.n (state_at (R.states self.now.log.now)) self.now.table.now before.old f }
-        ensures known { ClosedTold K.reads K.reach self.now.n (state_at (R.states self.now.log.now)) self.now.table.now before.new f }
-        ensures told { (v : ℕ) → Tells K.reads K.reach self.now.n (state_at (R.states self.now.log.now)) v (tree self.now.table.now f) own.new }
+        requires known { ClosedTold K.reads K.reach self.now.n (state_at self.now.states.now) self.now.table.now before.old f }
+        ensures known { ClosedTold K.reads K.reach self.now.n (state_at self.now.states.now) self.now.table.now before.new f }
+        ensures told { (v : ℕ) → Tells K.reads K.reach self.now.n (state_at self.now.states.now) v (tree self.now.table.now f) own.new }
     {
         match self.table[f] {
             Formula::Bind(part) => self.binder(f, part).label_bind(before, own),
@@ -131,7 +130,7 @@ impl<'a, R: Readable> Job<'a, R> {
     // Labels each formula that is not loose. What the cells of loose formulas hold afterwards says nothing.
     pub(crate) fn label_table<K: LabelKind + Copy>(&self, cells: &mut [K])
         requires room { length self.now.table.now * self.now.n ≡ length cells.old }
-        ensures told { ClosedTold K.reads K.reach self.now.n (state_at (R.states self.now.log.now)) self.now.table.now cells.new (length self.now.table.now) }
+        ensures told { ClosedTold K.reads K.reach self.now.n (state_at self.now.states.now) self.now.table.now cells.new (length self.now.table.now) }
     {
         for (f, loose) in self.flags.iter().enumerate() {
             if !*loose {

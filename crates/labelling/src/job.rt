@@ -1,7 +1,7 @@
 // A labelling at work, and the labels of one formula that binds no variable.
-ghost use Rattle.std.specs.Prelude.{◌≡◌, ℕ, ◌+◌, ◌*◌, ◌/◌, ◌%◌, ◌^◌, ◌<◌, ◌≤◌, Bool, true, false, length, Decides, slice_index_or};
+ghost use Rattle.std.specs.Prelude.{◌≡◌, ℕ, ◌+◌, ◌*◌, ◌/◌, ◌%◌, ◌^◌, ◌<◌, ◌≤◌, Bool, true, false, length, Decides, ◌≢◌, slice_index_or};
 ghost use Rattle.labels.specs.Readings.{Same, fixed};
-ghost use Rattle.logic.specs.declared.types.Formula.TheVariants.{True};
+ghost use Rattle.logic.specs.declared.types.Formula.TheVariants.{True, Variable};
 ghost use Rattle.logic.specs.States.{state_at};
 ghost use Rattle.logic.specs.Lawful.{LawfulTo};
 ghost use Rattle.logic.specs.Logic.{Tree, Shows, Carries, Refers};
@@ -16,18 +16,17 @@ use crate::rows::{
 };
 use labels::LabelKind;
 use logic::types::{Formula, State};
-use records::readable::Readable;
 
-// What a labelling goes by: a lawful record of n states, and a table in order with the flag of each formula, whether it is loose.
+// What a labelling goes by: n lawful states, which were read from a record once, and a table in order with the flag of each formula, whether it is loose.
 #[derive(Drop)]
-pub(crate) struct Job<'a, R: Readable> {
-    pub(crate) log: &'a R,
+pub(crate) struct Job<'a> {
+    pub(crate) states: &'a [State],
     pub(crate) n: usize,
     pub(crate) table: &'a [Formula],
     // Beside the formulas, as the table lends them: pairs would be a copy.
     pub(crate) flags: &'a [bool],
-    ghost count: { n ≡ length (R.Readable.states log.now) },
-    ghost lawful: { LawfulTo n (state_at (R.Readable.states log.now)) },
+    ghost count: { n ≡ length states.now },
+    ghost lawful: { LawfulTo n (state_at states.now) },
     ghost few: { length table.now ≤ 64 },
     ghost orderly: { OrderlyTable table.now } by { OrderlyTable-prop table.now },
     ghost each: { length flags.now ≡ length table.now },
@@ -53,35 +52,64 @@ fn refers(state: State, kind: u8, v: usize) -> bool
 fn decided<K: LabelKind>(value: bool, i: usize) -> K
     ensures { Same K.reach (K.reads result) (fixed i value) }
 {
-    if value {
-        K::true_from(i)
-    } else {
-        K::false_from(i)
-    }
+    let label = K::true_from(i);
+    if value { label } else { label.not() }
 }
 
-// Fills a row with labels that are decided at their own states, as `holds` says of each state.
+// Fills a row with labels that are decided at their own states, as `holds` says of each place.
 fn decide_row<K: LabelKind + Copy, F: Fn(usize) -> bool>(own: &mut [K], holds: F)
-    requires callable { (i : ℕ) → 1 ≤ i → i ≤ length own.old → F.pre holds i }
+    requires callable { (p : ℕ) → p < length own.old → F.pre holds p }
     ensures decided { DecidedRow K.reads K.reach (F.post holds) own.new }
 {
     fill_row(
         own,
         |p|
-            requires { (p + 1 < 2 ^ 64) × F.pre holds (p + 1) }
-            ensures { (b : Bool) × F.post holds (p + 1) b × Same K.reach (K.reads result) (fixed (p + 1) b) }
-        { decided(holds(p + 1), p + 1) },
+            requires { (p + 1 < 2 ^ 64) × F.pre holds p }
+            ensures { (b : Bool) × F.post holds p b × Same K.reach (K.reads result) (fixed (p + 1) b) }
+        { decided(holds(p), p + 1) },
     );
 }
 
-impl<'a, R: Readable> Job<'a, R> {
-    // Labels a formula without parts. The case is chosen once for the row, and not for each of its states.
+impl<'a> Job<'a> {
+    // Labels a formula that the states themselves show. The case is chosen once for the row, and not for each state.
+    fn label_shown<K: LabelKind + Copy>(&self, formula: Formula, v: usize, own: &mut [K])
+        requires known { InRange formula × (leaf formula ≡ true) × (formula ≢ True) × (formula ≢ Variable) }
+        requires long { length own.old ≡ self.now.n }
+        ensures told { (parts : ℕ → Tree) → Tells K.reads K.reach self.now.n (state_at self.now.states.now) v (node formula parts) own.new }
+    {
+        let states = self.states;
+        match formula {
+            Formula::Signal(b) => decide_row(
+                own,
+                |p|
+                    requires { (p < length states.now) × (b < 32) }
+                    ensures { Decides result (Shows (state_at states.entry.now (p + 1)) b) }
+                { is_on(states[p].signals, b) },
+            ),
+            Formula::Nominal(a) => decide_row(
+                own,
+                |p|
+                    requires { (p < length states.now) × (0 < a) }
+                    ensures { Decides result (Carries (state_at states.entry.now (p + 1)) a) }
+                { states[p].nominal == a },
+            ),
+            Formula::Reference(kind) => decide_row(
+                own,
+                |p|
+                    requires { (p < length states.now) × (0 < kind) }
+                    ensures { Decides result (Refers (state_at states.entry.now (p + 1)) kind v) }
+                { refers(states[p], kind, v) },
+            ),
+            _ => {}
+        }
+    }
+
+    // Labels a formula without parts.
     fn label_here<K: LabelKind + Copy>(&self, formula: Formula, v: usize, own: &mut [K])
         requires known { InRange formula × (leaf formula ≡ true) }
         requires long { length own.old ≡ self.now.n }
-        ensures told { (parts : ℕ → Tree) → Tells K.reads K.reach self.now.n (state_at (R.states self.now.log.now)) v (node formula parts) own.new }
+        ensures told { (parts : ℕ → Tree) → Tells K.reads K.reach self.now.n (state_at self.now.states.now) v (node formula parts) own.new }
     {
-        let log = self.log;
         match formula {
             Formula::True => decide_row(
                 own,
@@ -89,43 +117,24 @@ impl<'a, R: Readable> Job<'a, R> {
                     ensures { result ≡ true }
                 { true },
             ),
-            Formula::Signal(b) => decide_row(
-                own,
-                |i|
-                    requires { b < 32 }
-                    ensures { Decides result (Shows (state_at (R.states log.entry.now) i) b) }
-                { is_on(log.state(i).signals, b) },
-            ),
-            Formula::Nominal(a) => decide_row(
-                own,
-                |i|
-                    requires { 0 < a }
-                    ensures { Decides result (Carries (state_at (R.states log.entry.now) i) a) }
-                { log.state(i).nominal == a },
-            ),
             Formula::Variable => decide_row(
                 own,
-                |i|
-                    ensures { Decides result (i ≡ v) }
-                { i == v },
+                |p|
+                    requires { p + 1 < 2 ^ 64 }
+                    ensures { Decides result (p + 1 ≡ v) }
+                { p + 1 == v },
             ),
-            Formula::Reference(kind) => decide_row(
-                own,
-                |i|
-                    requires { 0 < kind }
-                    ensures { Decides result (Refers (state_at (R.states log.entry.now) i) kind v) }
-                { refers(log.state(i), kind, v) },
-            ),
-            _ => {}
+            _ => self.label_shown(formula, v, own),
         }
     }
 
     // The state that carries the nominal, if there is one.
     fn named_state(&self, nominal: u8) -> Option<usize>
         requires { 0 < nominal }
-        ensures { NamedState (state_at (R.states self.now.log.now)) self.now.n nominal result }
+        ensures { NamedState (state_at self.now.states.now) self.now.n nominal result }
     {
-        (1..=self.n).find(|i| self.log.state(*i).nominal == nominal)
+        let place = self.states.iter().position(|q| q.nominal == nominal)?;
+        Some(place + 1)
     }
 
     // Labels formula f, which binds no variable, with the variable bound to v, from the rows before its own.
@@ -138,8 +147,8 @@ impl<'a, R: Readable> Job<'a, R> {
     )
         requires fit { (f < length self.now.table.now) × (binds (slice_index_or self.now.table.now f True) ≡ false) }
         requires room { (length before.now ≡ f * self.now.n) × (length own.old ≡ self.now.n) }
-        requires parts { EachPart (λ g. Tells K.reads K.reach self.now.n (state_at (R.states self.now.log.now)) v (tree self.now.table.now g) (row self.now.n g before.now)) (slice_index_or self.now.table.now f True) }
-        ensures told { Tells K.reads K.reach self.now.n (state_at (R.states self.now.log.now)) v (tree self.now.table.now f) own.new }
+        requires parts { EachPart (λ g. Tells K.reads K.reach self.now.n (state_at self.now.states.now) v (tree self.now.table.now g) (row self.now.n g before.now)) (slice_index_or self.now.table.now f True) }
+        ensures told { Tells K.reads K.reach self.now.n (state_at self.now.states.now) v (tree self.now.table.now f) own.new }
     {
         let n = self.n;
         match self.table[f] {

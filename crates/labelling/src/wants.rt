@@ -6,7 +6,6 @@ ghost use Rattle.labelling.specs.Bound.{Grown, Wanted, Ready, Cone};
 
 use crate::job::Job;
 use logic::types::Formula;
-use records::readable::Readable;
 use table::draft::MOST_FORMULAS;
 
 // Wants formula x if it is loose.
@@ -31,7 +30,7 @@ fn want_parts(formula: Formula, f: usize, flags: &[bool], wanted: &mut [bool])
     }
 }
 
-impl<'a, R: Readable> Job<'a, R> {
+impl<'a> Job<'a> {
     // The loose formulas that formula a is made of.
     pub(crate) fn cone(&self, a: usize) -> [bool; MOST_FORMULAS]
         requires { a < length self.now.table.now }

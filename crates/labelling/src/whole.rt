@@ -9,12 +9,12 @@ use crate::job::Job;
 use crate::rows::clear;
 use labels::LabelKind;
 use lawful::first_unlawful;
-use logic::types::MOST_STATES;
-use records::readable::Readable;
+use logic::types::{MOST_STATES, State};
+use records::readable::{BLANK, Readable};
 use refusals::Refusal;
 use table::finished::Table;
 
-impl<'a, R: Readable> Job<'a, R> {
+impl<'a> Job<'a> {
     // Copies the labels of the formulas that are not loose to the label memory, and makes those of the loose ones unknown there.
     fn publish<K: LabelKind + Copy>(&self, work: &[K], cells: &mut [K])
         requires { (length work.now ≡ length self.now.table.now * self.now.n) × (length cells.old ≡ length self.now.table.now * self.now.n) }
@@ -33,7 +33,7 @@ impl<'a, R: Readable> Job<'a, R> {
     // Fills the rows in the working memory, publishes them, and makes the working memory unknown.
     fn label_rows<K: LabelKind + Copy>(&self, cells: &mut [K], work: &mut [K])
         requires { (length work.old ≡ length self.now.table.now * self.now.n) × (length cells.old ≡ length self.now.table.now * self.now.n) }
-        ensures labels { (f i : ℕ) → f < length self.now.table.now → 1 ≤ i → i ≤ self.now.n → (d : K) → LabelOf K.reads K.reach self.now.table.now (R.states self.now.log.now) f i (slice_index_or cells.new (place self.now.n f i) d) }
+        ensures labels { (f i : ℕ) → f < length self.now.table.now → 1 ≤ i → i ≤ self.now.n → (d : K) → LabelOf K.reads K.reach self.now.table.now (self.now.states.now) f i (slice_index_or cells.new (place self.now.n f i) d) }
         ensures cleared { (k : ℕ) (d : K) → k < length work.old → Same K.reach (K.reads (slice_index_or work.new k d)) opened }
     {
         self.label_table(work);
@@ -45,11 +45,23 @@ impl<'a, R: Readable> Job<'a, R> {
     fn label_all<K: LabelKind + Copy>(&self, labels: &mut [K], work: &mut [K])
         requires short { (self.now.n ≤ 256) × (self.now.n ≤ K.reach) }
         requires roomy { (length self.now.table.now * self.now.n ≤ length labels.old) × (length self.now.table.now * self.now.n ≤ length work.old) }
-        ensures { Labelled K.reads K.reach self.now.table.now (R.states self.now.log.now) labels.old work.old labels.new work.new }
+        ensures { Labelled K.reads K.reach self.now.table.now (self.now.states.now) labels.old work.old labels.new work.new }
     {
         let total = self.table.len() * self.n;
         self.label_rows(&mut labels[..total], &mut work[..total]);
     }
+}
+
+// The states of a record, put into rows, so that each is read but once from here on.
+fn read_states<'a, R: Readable>(log: &R, rows: &'a mut [State]) -> &'a [State]
+    requires { length (R.states log.now) ≤ length rows.old }
+    ensures { result.now ≡ R.states log.now }
+{
+    let states = &mut rows[..log.count()];
+    for (p, state) in states.iter_mut().enumerate() {
+        *state = log.state(p + 1);
+    }
+    states
 }
 
 // Labels all states of a record at all formulas of a table, in any kind of label, and answers the number of states. Formula f
@@ -73,8 +85,9 @@ pub fn label_whole<K: LabelKind + Copy, R: Readable>(
         return Err(Refusal::MemoryTooShort);
     }
     first_unlawful(log)?;
+    let mut rows = [BLANK; MOST_STATES];
     let job = Job {
-        log,
+        states: read_states(log, &mut rows),
         n,
         table: formulas,
         flags: table.loose(),

@@ -14,7 +14,7 @@ loop-p-preserved g c =
     let b = c.args.self.now in
     let job = b.job.now in
     let n = job.n in
-    let s = state_at (g.R.Readable.states job.log.now) in
+    let s = state_at job.states.now in
     let table = job.table.now in
     let p = c.loop-p.p in
     let ys = c.label_bound.new.before in
@@ -32,7 +32,7 @@ pub returns : goal.returns
 returns g c =
     let b = c.args.self.now in
     let job = b.job.now in
-    let s = state_at (g.R.Readable.states job.log.now) in
+    let s = state_at job.states.now in
     record {
       known = c.loop-p.invariant.0;
       told = λ v.

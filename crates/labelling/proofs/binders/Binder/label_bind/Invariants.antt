@@ -10,6 +10,6 @@ abbrev pub invariant-loop-p : goal.invariant-loop-p
 invariant-loop-p g l =
     let k = g.K.LabelKind in
     let job = l.self.job.now in
-    let s = state_at (g.R.Readable.states job.log.now) in
+    let s = state_at job.states.now in
     ClosedTold k.reads k.reach job.n s job.table.now l.before l.self.f
     × DecidedTo k.reads k.reach (λ i e c. Reads e s (min c job.n) 0 i (bind (tree job.table.now l.self.part))) l.own l.p

@@ -27,7 +27,7 @@ label_row-requires-clause-fit g c =
     let k = c.loop-g.g in
     let less : k < b.f = below b.f k b.wanted c.loop-g-test.true in
     let within : k < length job.table.now = omega (arith, b.within, less) in
-    (within, unbound g.K.LabelKind.reads g.K.LabelKind.reach job.n (state_at (g.R.Readable.states job.log.now)) job.table.now k job.orderly within (b.cone k less (among b.f k b.wanted true c.loop-g-test.true c.if-wanted.true)).0)
+    (within, unbound g.K.LabelKind.reads g.K.LabelKind.reach job.n (state_at job.states.now) job.table.now k job.orderly within (b.cone k less (among b.f k b.wanted true c.loop-g-test.true c.if-wanted.true)).0)
 
 pub label_row-requires-clause-parts : goal.label_row-requires-clause-parts
 label_row-requires-clause-parts g c =
@@ -38,7 +38,7 @@ label_row-requires-clause-parts g c =
     let within : k < length job.table.now = omega (arith, b.within, less) in
     let low = c.split_at_mut-low.result.0.now in
     let rest = c.split_at_mut-low.result.1.now in
-    parts_told g.K.LabelKind.reads g.K.LabelKind.reach job.n (state_at (g.R.Readable.states job.log.now)) job.table.now b.wanted c.args.v b.f c.loop-g.before low k job.orderly within less
+    parts_told g.K.LabelKind.reads g.K.LabelKind.reach job.n (state_at job.states.now) job.table.now b.wanted c.args.v b.f c.loop-g.before low k job.orderly within less
     (λ j less. ap (row job.n j) c.split_at_mut-low.ensures.value ∙ row_front job.n j low rest (omega (arith, c.split_at_mut-low.ensures.front_len, row_below j k job.n less)))
     (b.cone k less (among b.f k b.wanted true c.loop-g-test.true c.if-wanted.true)).1 c.loop-g.invariant
 
@@ -48,7 +48,7 @@ loop-g-preserved g c =
     let job = b.job.now in
     let reads = g.K.LabelKind.reads in
     let reach = g.K.LabelKind.reach in
-    let s = state_at (g.R.Readable.states job.log.now) in
+    let s = state_at job.states.now in
     let k = c.loop-g.g in
     let less : k < b.f = below b.f k b.wanted c.loop-g-test.true in
     elim c.if-wanted.branch [

@@ -1,7 +1,7 @@
-use Rattle.std.proofs.Common.{◌≡◌, ◌+◌, min, true, ◌⊎◌, Decides, ◌∙◌, subst, arith}
+use Rattle.std.proofs.Common.{◌≡◌, suc, get_or, ap, ◌+◌, min, true, ◌⊎◌, Decides, ◌∙◌, subst, arith}
 use Rattle.std.proofs.lemmas.Bool.{cond-true, cond-false, lt-ltb, le-ltb}
 use Rattle.logic.specs.declared.types.State.{State}
-use Rattle.logic.specs.States.{state_at}
+use Rattle.logic.specs.States.{blank, state_at}
 use Rattle.logic.specs.Logic.{Reads, some'}
 use Rattle.logic.specs.Tables.{tree}
 use Rattle.labelling.specs.Bound.{Through}
@@ -16,10 +16,12 @@ loop-p-preserved g c =
     let b = c.args.self.now in
     let job = b.job.now in
     let n = job.n in
-    let s = state_at (g.R.Readable.states job.log.now) in
+    let s = state_at job.states.now in
     let φ = tree job.table.now b.part in
     let p = c.loop-p.p in
     let kind = c.args.kind in
+    let next : suc p ≡ p + 1 = omega arith in
+    let is : get_or job.states.now p blank ≡ s (p + 1) = ap s next in
     let none = c.false_from-none.result in
     let one = c.label_through-one.result in
     let two = c.label_through.result in (
@@ -30,8 +32,8 @@ loop-p-preserved g c =
           some_decides s φ kind (p + 1) c.requires.kind e (min k n) (reads none e k) (reads one e k) (reads two e k)
           (λ w. is_none ∙ cond-true _ _ _ (lt-ltb k (p + 1) (omega arith)))
           (λ w. is_none ∙ cond-false _ _ _ (le-ltb k (p + 1) (omega arith)))
-          (subst (λ (q : State). Decides (reads one e k) ((reads none e k ≡ true) ⊎ Through s φ kind q.first (p + 1) e (min k n))) c.state-state.ensures (c.label_through-one.ensures.told e k lo hi))
-          (subst (λ (q : State). Decides (reads two e k) ((reads one e k ≡ true) ⊎ Through s φ kind q.second (p + 1) e (min k n))) c.state-state.ensures (c.label_through.ensures.told e k lo hi)))
+          (subst (λ (q : State). Decides (reads one e k) ((reads none e k ≡ true) ⊎ Through s φ kind q.first (p + 1) e (min k n))) is (c.label_through-one.ensures.told e k lo hi))
+          (subst (λ (q : State). Decides (reads two e k) ((reads one e k ≡ true) ⊎ Through s φ kind q.second (p + 1) e (min k n))) is (c.label_through.ensures.told e k lo hi)))
           c.loop-p.invariant.1,
     )
 
@@ -39,7 +41,7 @@ pub returns : goal.returns
 returns g c =
     let b = c.args.self.now in
     let job = b.job.now in
-    let s = state_at (g.R.Readable.states job.log.now) in
+    let s = state_at job.states.now in
     record {
       known = c.loop-p.invariant.0;
       told = λ v.

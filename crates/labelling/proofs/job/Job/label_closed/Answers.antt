@@ -18,7 +18,7 @@ label_row-requires g c =
     record {
       fit = (c.requires.fit.0, plain);
       room = c.requires.room;
-      parts = closed_ready g.K.LabelKind.reads g.K.LabelKind.reach job.n (state_at (g.R.Readable.states job.log.now)) table job.orderly c.args.f c.requires.fit.0 c.args.before.now plain c.requires.fit.1 c.requires.known 0;
+      parts = closed_ready g.K.LabelKind.reads g.K.LabelKind.reach job.n (state_at job.states.now) table job.orderly c.args.f c.requires.fit.0 c.args.before.now plain c.requires.fit.1 c.requires.known 0;
     }
 
 pub label_bind-requires-clause-known : goal.label_bind-requires-clause-known
@@ -26,8 +26,8 @@ label_bind-requires-clause-known g c =
     let k = g.K.LabelKind in
     let e = c.binder.ensures in
     let xs = c.args.before.now in
-    subst (λ j. ClosedTold k.reads k.reach j.n (state_at (g.R.Readable.states j.log.now)) j.table.now xs c.binder.result.f) (sym e.0)
-    (subst (λ f. ClosedTold k.reads k.reach c.args.self.now.n (state_at (g.R.Readable.states c.args.self.now.log.now)) c.args.self.now.table.now xs f) (sym e.1) c.requires.known)
+    subst (λ j. ClosedTold k.reads k.reach j.n (state_at j.states.now) j.table.now xs c.binder.result.f) (sym e.0)
+    (subst (λ f. ClosedTold k.reads k.reach c.args.self.now.n (state_at c.args.self.now.states.now) c.args.self.now.table.now xs f) (sym e.1) c.requires.known)
 
 pub returns-in-Bind : goal.returns-in-Bind
 returns-in-Bind g c =
@@ -37,12 +37,12 @@ returns-in-Bind g c =
     let xs = c.label_bind.new.before in
     record {
       known =
-          subst (λ f. ClosedTold k.reads k.reach job.n (state_at (g.R.Readable.states job.log.now)) job.table.now xs f) e.1
-          (subst (λ j. ClosedTold k.reads k.reach j.n (state_at (g.R.Readable.states j.log.now)) j.table.now xs c.binder.result.f) e.0 c.label_bind.ensures.known);
+          subst (λ f. ClosedTold k.reads k.reach job.n (state_at job.states.now) job.table.now xs f) e.1
+          (subst (λ j. ClosedTold k.reads k.reach j.n (state_at j.states.now) j.table.now xs c.binder.result.f) e.0 c.label_bind.ensures.known);
       told = λ v.
-          tells_node job.table.now job.orderly c.args.f c.requires.fit.0 (op.Bind c.in-Bind.part) c.in-Bind.is k.reads k.reach job.n (state_at (g.R.Readable.states job.log.now)) v c.label_bind.new.own
-          (subst (λ p. Tells k.reads k.reach job.n (state_at (g.R.Readable.states job.log.now)) v (bind (tree job.table.now p)) c.label_bind.new.own) e.2
-          (subst (λ j. Tells k.reads k.reach j.n (state_at (g.R.Readable.states j.log.now)) v (bind (tree j.table.now c.binder.result.part)) c.label_bind.new.own) e.0 (c.label_bind.ensures.told v)));
+          tells_node job.table.now job.orderly c.args.f c.requires.fit.0 (op.Bind c.in-Bind.part) c.in-Bind.is k.reads k.reach job.n (state_at job.states.now) v c.label_bind.new.own
+          (subst (λ p. Tells k.reads k.reach job.n (state_at job.states.now) v (bind (tree job.table.now p)) c.label_bind.new.own) e.2
+          (subst (λ j. Tells k.reads k.reach j.n (state_at j.states.now) v (bind (tree j.table.now c.binder.result.part)) c.label_bind.new.own) e.0 (c.label_bind.ensures.told v)));
     }
 
 pub label_some-requires-clause-known : goal.label_some-requires-clause-known
@@ -50,8 +50,8 @@ label_some-requires-clause-known g c =
     let k = g.K.LabelKind in
     let e = c.binder-in-Some.ensures in
     let xs = c.args.before.now in
-    subst (λ j. ClosedTold k.reads k.reach j.n (state_at (g.R.Readable.states j.log.now)) j.table.now xs c.binder-in-Some.result.f) (sym e.0)
-    (subst (λ f. ClosedTold k.reads k.reach c.args.self.now.n (state_at (g.R.Readable.states c.args.self.now.log.now)) c.args.self.now.table.now xs f) (sym e.1) c.requires.known)
+    subst (λ j. ClosedTold k.reads k.reach j.n (state_at j.states.now) j.table.now xs c.binder-in-Some.result.f) (sym e.0)
+    (subst (λ f. ClosedTold k.reads k.reach c.args.self.now.n (state_at c.args.self.now.states.now) c.args.self.now.table.now xs f) (sym e.1) c.requires.known)
 
 pub returns-in-Some : goal.returns-in-Some
 returns-in-Some g c =
@@ -61,12 +61,12 @@ returns-in-Some g c =
     let xs = c.label_some.new.before in
     record {
       known =
-          subst (λ f. ClosedTold k.reads k.reach job.n (state_at (g.R.Readable.states job.log.now)) job.table.now xs f) e.1
-          (subst (λ j. ClosedTold k.reads k.reach j.n (state_at (g.R.Readable.states j.log.now)) j.table.now xs c.binder-in-Some.result.f) e.0 c.label_some.ensures.known);
+          subst (λ f. ClosedTold k.reads k.reach job.n (state_at job.states.now) job.table.now xs f) e.1
+          (subst (λ j. ClosedTold k.reads k.reach j.n (state_at j.states.now) j.table.now xs c.binder-in-Some.result.f) e.0 c.label_some.ensures.known);
       told = λ v.
-          tells_node job.table.now job.orderly c.args.f c.requires.fit.0 (op.Some c.in-Some.kind c.in-Some.part) c.in-Some.is k.reads k.reach job.n (state_at (g.R.Readable.states job.log.now)) v c.label_some.new.own
-          (subst (λ p. Tells k.reads k.reach job.n (state_at (g.R.Readable.states job.log.now)) v (some' c.in-Some.kind (tree job.table.now p)) c.label_some.new.own) e.2
-          (subst (λ j. Tells k.reads k.reach j.n (state_at (g.R.Readable.states j.log.now)) v (some' c.in-Some.kind (tree j.table.now c.binder-in-Some.result.part)) c.label_some.new.own) e.0 (c.label_some.ensures.told v)));
+          tells_node job.table.now job.orderly c.args.f c.requires.fit.0 (op.Some c.in-Some.kind c.in-Some.part) c.in-Some.is k.reads k.reach job.n (state_at job.states.now) v c.label_some.new.own
+          (subst (λ p. Tells k.reads k.reach job.n (state_at job.states.now) v (some' c.in-Some.kind (tree job.table.now p)) c.label_some.new.own) e.2
+          (subst (λ j. Tells k.reads k.reach j.n (state_at j.states.now) v (some' c.in-Some.kind (tree j.table.now c.binder-in-Some.result.part)) c.label_some.new.own) e.0 (c.label_some.ensures.told v)));
     }
 
 pub returns-in_default : goal.returns-in_default
@@ -76,5 +76,5 @@ returns-in_default g c =
     let job = c.args.self.now in
     record {
       known = c.requires.known;
-      told = λ v. tells_any k.reads k.reach job.n (state_at (g.R.Readable.states job.log.now)) 0 v (tree job.table.now c.args.f) c.label_row.new.own c.requires.fit.1 c.label_row.ensures.told;
+      told = λ v. tells_any k.reads k.reach job.n (state_at job.states.now) 0 v (tree job.table.now c.args.f) c.label_row.new.own c.requires.fit.1 c.label_row.ensures.told;
     }

@@ -9,23 +9,7 @@ returns-in-True g c =
     let k = g.K.LabelKind in
     let job = c.args.self.now in
     record {
-      told = decided_tells k.reads k.reach job.n (state_at (g.R.Readable.states job.log.now)) c.args.v c.args.formula op.True c.in-True.is refl _ (λ i b pos h. ((λ z. tt), (λ z. h))) c.decide_row.new.own (omega arith) c.decide_row.ensures.decided;
-    }
-
-pub returns-in-Signal : goal.returns-in-Signal
-returns-in-Signal g c =
-    let k = g.K.LabelKind in
-    let job = c.args.self.now in
-    record {
-      told = decided_tells k.reads k.reach job.n (state_at (g.R.Readable.states job.log.now)) c.args.v c.args.formula (op.Signal c.in-Signal.b) c.in-Signal.is refl _ (λ i b pos h. h) c.decide_row-in-Signal.new.own (omega arith) c.decide_row-in-Signal.ensures.decided;
-    }
-
-pub returns-in-Nominal : goal.returns-in-Nominal
-returns-in-Nominal g c =
-    let k = g.K.LabelKind in
-    let job = c.args.self.now in
-    record {
-      told = decided_tells k.reads k.reach job.n (state_at (g.R.Readable.states job.log.now)) c.args.v c.args.formula (op.Nominal c.in-Nominal.a) c.in-Nominal.is refl _ (λ i b pos h. h) c.decide_row-in-Nominal.new.own (omega arith) c.decide_row-in-Nominal.ensures.decided;
+      told = decided_tells k.reads k.reach job.n (state_at job.states.now) c.args.v c.args.formula op.True c.in-True.is refl _ (λ p b h. ((λ z. tt), (λ z. h))) c.decide_row.new.own (omega arith) c.decide_row.ensures.decided;
     }
 
 pub returns-in-Variable : goal.returns-in-Variable
@@ -33,13 +17,5 @@ returns-in-Variable g c =
     let k = g.K.LabelKind in
     let job = c.args.self.now in
     record {
-      told = decided_tells k.reads k.reach job.n (state_at (g.R.Readable.states job.log.now)) c.args.v c.args.formula op.Variable c.in-Variable.is refl _ (λ i b pos h. h) c.decide_row-in-Variable.new.own (omega arith) c.decide_row-in-Variable.ensures.decided;
-    }
-
-pub returns-in-Reference : goal.returns-in-Reference
-returns-in-Reference g c =
-    let k = g.K.LabelKind in
-    let job = c.args.self.now in
-    record {
-      told = decided_tells k.reads k.reach job.n (state_at (g.R.Readable.states job.log.now)) c.args.v c.args.formula (op.Reference c.in-Reference.kind) c.in-Reference.is refl _ (λ i b pos h. h) c.decide_row-in-Reference.new.own (omega arith) c.decide_row-in-Reference.ensures.decided;
+      told = decided_tells k.reads k.reach job.n (state_at job.states.now) c.args.v c.args.formula op.Variable c.in-Variable.is refl _ (λ p b h. h) c.decide_row-in-Variable.new.own (omega arith) c.decide_row-in-Variable.ensures.decided;
     }

@@ -18,13 +18,13 @@ label_named-requires-clause-within g c =
     let low = parts_below job.table.now job.orderly c.args.f c.requires.fit.0 (op.At c.in-At.nominal c.in-At.a) c.in-At.is in
     let below = row_below c.in-At.a c.args.f job.n low in
     let long : length c.row_of-in-At.result.now ≡ job.n = ap length c.row_of-in-At.ensures ∙ length_row job.n c.in-At.a c.args.before.now (omega (arith, c.requires.room.0)) in
-    named_within (state_at (g.R.Readable.states job.log.now)) job.n (length c.row_of-in-At.result.now) c.in-At.nominal c.named_state.result (sym long) c.named_state.ensures
+    named_within (state_at job.states.now) job.n (length c.row_of-in-At.result.now) c.in-At.nominal c.named_state.result (sym long) c.named_state.ensures
 
 pub returns-in-Not : goal.returns-in-Not
 returns-in-Not g c =
     let k = g.K.LabelKind in
     let job = c.args.self.now in
-    let s = state_at (g.R.Readable.states job.log.now) in
+    let s = state_at job.states.now in
     let table = job.table.now in
     let own = c.args.own.now in
     record {
@@ -36,7 +36,7 @@ pub returns-in-And : goal.returns-in-And
 returns-in-And g c =
     let k = g.K.LabelKind in
     let job = c.args.self.now in
-    let s = state_at (g.R.Readable.states job.log.now) in
+    let s = state_at job.states.now in
     let table = job.table.now in
     let own = c.args.own.now in
     record {
@@ -51,7 +51,7 @@ pub returns-in-Or : goal.returns-in-Or
 returns-in-Or g c =
     let k = g.K.LabelKind in
     let job = c.args.self.now in
-    let s = state_at (g.R.Readable.states job.log.now) in
+    let s = state_at job.states.now in
     let table = job.table.now in
     let own = c.args.own.now in
     record {
@@ -66,7 +66,7 @@ pub returns-in-Next : goal.returns-in-Next
 returns-in-Next g c =
     let k = g.K.LabelKind in
     let job = c.args.self.now in
-    let s = state_at (g.R.Readable.states job.log.now) in
+    let s = state_at job.states.now in
     let table = job.table.now in
     let own = c.args.own.now in
     record {
@@ -78,7 +78,7 @@ pub returns-in-Previous : goal.returns-in-Previous
 returns-in-Previous g c =
     let k = g.K.LabelKind in
     let job = c.args.self.now in
-    let s = state_at (g.R.Readable.states job.log.now) in
+    let s = state_at job.states.now in
     let table = job.table.now in
     let own = c.args.own.now in
     record {
@@ -90,7 +90,7 @@ pub returns-in-Until : goal.returns-in-Until
 returns-in-Until g c =
     let k = g.K.LabelKind in
     let job = c.args.self.now in
-    let s = state_at (g.R.Readable.states job.log.now) in
+    let s = state_at job.states.now in
     let table = job.table.now in
     let own = c.args.own.now in
     record {
@@ -105,7 +105,7 @@ pub returns-in-Since : goal.returns-in-Since
 returns-in-Since g c =
     let k = g.K.LabelKind in
     let job = c.args.self.now in
-    let s = state_at (g.R.Readable.states job.log.now) in
+    let s = state_at job.states.now in
     let table = job.table.now in
     let own = c.args.own.now in
     record {
@@ -120,7 +120,7 @@ pub returns-in-At : goal.returns-in-At
 returns-in-At g c =
     let k = g.K.LabelKind in
     let job = c.args.self.now in
-    let s = state_at (g.R.Readable.states job.log.now) in
+    let s = state_at job.states.now in
     let table = job.table.now in
     let own = c.args.own.now in
     record {
@@ -132,7 +132,7 @@ pub returns-in_default : goal.returns-in_default
 returns-in_default g c =
     let k = g.K.LabelKind in
     let job = c.args.self.now in
-    let s = state_at (g.R.Readable.states job.log.now) in
+    let s = state_at job.states.now in
     let table = job.table.now in
     record {
       told = tells_node table job.orderly c.args.f c.requires.fit.0 (get_or table c.args.f op.True) refl k.reads k.reach job.n s c.args.v c.label_here.new.own (c.label_here.ensures.told (tree table));

@@ -9,7 +9,7 @@ use Rattle.labelling.proofs.job.Job.label_table.Goals.{then-not-loose, else-not-
 pub label_closed-requires-clause-known : goal.label_closed-requires-clause-known
 label_closed-requires-clause-known g c =
     let job = c.args.self.now in
-    closed_low g.K.LabelKind.reads g.K.LabelKind.reach job.n (state_at (g.R.Readable.states job.log.now)) job.table.now c.loop-f.f c.loop-f.cells
+    closed_low g.K.LabelKind.reads g.K.LabelKind.reach job.n (state_at job.states.now) job.table.now c.loop-f.f c.loop-f.cells
     c.split_at_mut-before.result.0.now c.split_at_mut-before.result.1.now c.split_at_mut-before.ensures.value c.split_at_mut-before.ensures.front_len c.loop-f.invariant
 
 pub loop-f-preserved : goal.loop-f-preserved
@@ -19,7 +19,7 @@ loop-f-preserved g c =
     let job = c.args.self.now in
     let n = job.n in
     let table = job.table.now in
-    let s = state_at (g.R.Readable.states job.log.now) in
+    let s = state_at job.states.now in
     let f = c.loop-f.f in
     let within : f < length table = omega (arith, c.loop-f-test.true, job.each) in
     elim c.if-not-loose.branch [
