@@ -1,31 +1,36 @@
--- A list whose items are pushed one by one, each under its number. Assumes nothing.
-use Rattle.std.proofs.Common.{◌≡◌, ℕ, zero, suc, ◌+◌, ◌<◌, ◌≤◌, List, [], ◌∷◌, ◌++◌, map, length, take, Some, None, sym, ap, ◌∙◌, append_assoc, add-one, arith}
-use Rattle.std.specs.List.{slice_get}
-use Rattle.std.proofs.lemmas.List.{map-append, take_all}
+-- The notices of a point, state by state and rule by rule. Assumes nothing.
+use Rattle.std.proofs.Common.{◌≡◌, ℕ, zero, suc, ◌+◌, ◌-◌, ◌<◌, ◌≤◌, List, [], ◌∷◌, ◌++◌, length, get_or, take, sym, ap, ◌∙◌, append_assoc, add-one, arith}
+use Rattle.std.proofs.lemmas.List.{append-nil}
+use Rattle.logic.specs.declared.types.Rule.{Rule}
+use Rattle.expectations.specs.Expectations.{Labels, no_rule, of_state, from_state, from_rule}
 
-module _ {X : Type 0} where
-  pub nth_within : (xs : List X) (k : ℕ) (x : X) → slice_get xs k ≡ Some x → k < length xs
-  nth_within [] k x e = let z : ◌≡◌ {A = ℕ} 0 1 = cc in absurd (omega arith)
-  nth_within (y ∷ ys) zero x e = omega arith
-  nth_within (y ∷ ys) (suc k) x e = omega (arith, nth_within ys k x e)
+module _ (labels : Labels) (c : ℕ) where
+  state_after : (k : ℕ) (r : Rule) (m s t : ℕ) → t ≡ s + m → from_state labels c k r (suc m) s ≡ from_state labels c k r m s ++ of_state labels c k r t
+  state_after k r zero s t e =
+      let same : t ≡ s = omega arith in
+      append-nil (of_state labels c k r s) ∙ ap (of_state labels c k r) (sym same)
+  state_after k r (suc m) s t e =
+      let first = of_state labels c k r s in
+      ap (λ l. first ++ l) (state_after k r m (suc s) t (omega arith)) ∙ sym (append_assoc first (from_state labels c k r m (suc s)) (of_state labels c k r t))
 
-  pub nth_over : (xs : List X) (k : ℕ) → slice_get xs k ≡ None → length xs ≤ k
-  nth_over [] k e = omega arith
-  nth_over (y ∷ ys) zero e = let z : ◌≡◌ {A = ℕ} 0 1 = cc in absurd (omega arith)
-  nth_over (y ∷ ys) (suc k) e = omega (arith, nth_over ys k e)
+  -- a state more at the end
+  pub state_more : (k : ℕ) (r : Rule) (s : ℕ) → 1 ≤ s → from_state labels c k r (s + 1 - 1) 1 ≡ from_state labels c k r (s - 1) 1 ++ of_state labels c k r s
+  state_more k r s h =
+      let e : s + 1 - 1 ≡ suc (s - 1) = omega arith in
+      ap (λ m. from_state labels c k r m 1) e ∙ state_after k r (s - 1) 1 s (omega arith)
 
-  take_suc : (xs : List X) (k : ℕ) (x : X) → slice_get xs k ≡ Some x → take (suc k) xs ≡ take k xs ++ x ∷ []
-  take_suc [] k x e = let z : ◌≡◌ {A = ℕ} 0 1 = cc in absurd (omega arith)
-  take_suc (y ∷ ys) zero x e = let z : y ≡ x = cc in ap (λ w. w ∷ []) z
-  take_suc (y ∷ ys) (suc k) x e = ap (λ zs. y ∷ zs) (take_suc ys k x e)
+  rule_after : (k j q : ℕ) (rs : List Rule) → j < length rs → q ≡ k + j
+      → from_rule labels c k (take (suc j) rs) ≡ from_rule labels c k (take j rs) ++ from_state labels c q (get_or rs j no_rule) c 1
+  rule_after k j q [] h e = absurd (omega arith)
+  rule_after k zero q (r ∷ rs) h e =
+      let same : q ≡ k = omega arith in
+      append-nil (from_state labels c k r c 1) ∙ ap (λ n. from_state labels c n r c 1) (sym same)
+  rule_after k (suc j) q (r ∷ rs) h e =
+      let first = from_state labels c k r c 1 in
+      ap (λ l. first ++ l) (rule_after (suc k) j q rs (omega arith) (omega arith))
+      ∙ sym (append_assoc first (from_rule labels c (suc k) (take j rs)) (from_state labels c q (get_or rs j no_rule) c 1))
 
-  pub pushed : {L : Type 0} (f : X → L) (all : List X) (old items : List L) (k : ℕ) (x : X) → slice_get all k ≡ Some x
-      → items ≡ old ++ map f (take k all) → items ++ f x ∷ [] ≡ old ++ map f (take (k + 1) all)
-  pushed f all old items k x e inv =
-      ap (λ l. l ++ f x ∷ []) inv
-      ∙ append_assoc old (map f (take k all)) (f x ∷ [])
-      ∙ ap (λ l. old ++ l) (sym (map-append f (take k all) (x ∷ [])) ∙ ap (map f) (sym (take_suc all k x e) ∙ ap (λ n. take n all) (sym (add-one k))))
-
-  pub pushed_all : {L : Type 0} (f : X → L) (all : List X) (old items : List L) (k : ℕ) → slice_get all k ≡ None
-      → items ≡ old ++ map f (take k all) → items ≡ old ++ map f all
-  pushed_all f all old items k e inv = inv ∙ ap (λ xs. old ++ map f xs) (take_all k all (nth_over all k e))
+  -- a rule more at the end
+  pub rule_more : (j : ℕ) (rs : List Rule) → j < length rs
+      → from_rule labels c 0 (take (j + 1) rs) ≡ from_rule labels c 0 (take j rs) ++ from_state labels c j (get_or rs j no_rule) c 1
+  rule_more j rs h = ap (λ n. from_rule labels c 0 (take n rs)) (add-one j) ∙ rule_after 0 j j rs h (omega arith)

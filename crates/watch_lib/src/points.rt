@@ -1,39 +1,106 @@
 // The notices of a truncation point.
-ghost use Rattle.std.specs.Prelude.{◌≡◌, ◌≤◌, ◌++◌, map, length, OnOk};
-ghost use Rattle.std.specs.List.{slice_get};
-ghost use Rattle.expectations.specs.Expectations.{notices};
+ghost use Rattle.std.specs.Prelude.{◌≡◌, ◌<◌, ◌≤◌, ◌++◌, map, length, OnOk, slice_index_or};
+ghost use Rattle.std.specs.List.{flat_map};
+ghost use Rattle.std.specs.Option.{option_to_list};
+ghost use Rattle.expectations.specs.Expectations.{standing, no_rule, of_state, from_state, notices};
 ghost use Rattle.growth.specs.Growth.{labels_of};
 ghost use Rattle.monitor.specs.Book.{table_of, rules_in};
 ghost use Rattle.watch_lib.specs.declared.lines.Line.TheVariants.{Told};
 
 use crate::lines::Line;
 use crate::watcher::Watcher;
-use expectations::types::Notice;
+use expectations::types::{Event, Notice, Standing};
 use records::growing::Growing;
 use records::readable::Readable;
 use std::alloc::AllocError;
 
 impl<R: Growing> Watcher<R> {
-    // The k-th notice of a point that was accepted.
-    fn notice_at(&self, point: usize, k: usize) -> Option<Notice>
-        requires from { 1 ≤ point }
+    // What has become of the expectation that a rule has of a state, as a point that was accepted reads it.
+    fn standing_of(&self, rule: usize, state: usize, point: usize) -> Standing
+        requires rule { rule < length (rules_in self.now.monitor.book) }
+        requires from { 1 ≤ state }
+        requires by { state ≤ point }
         requires to { point ≤ length (R.Readable.states self.now.monitor.log) }
-        ensures { result ≡ slice_get (notices (labels_of (table_of self.now.monitor.book) (R.Readable.states self.now.monitor.log)) (rules_in self.now.monitor.book) point) k }
+        ensures { result ≡ standing (labels_of (table_of self.now.monitor.book) (R.Readable.states self.now.monitor.log)) (slice_index_or (rules_in self.now.monitor.book) rule no_rule) state point }
     {
-        // Never refused: the point was accepted.
-        self.monitor.notice(point, k).unwrap_or(None)
+        // Never refused: the rule is there, and the point was accepted.
+        self.monitor
+            .standing(rule, state, point)
+            .unwrap_or(Standing::NotRaised)
     }
 
-    // Adds a line for each notice of a point that was accepted.
+    // The notices that a point has on this expectation: its raising, then its decision.
+    fn notices_of(&self, rule: usize, state: usize, point: usize) -> [Option<Notice>; 2]
+        requires rule { rule < length (rules_in self.now.monitor.book) }
+        requires from { 1 ≤ state }
+        requires by { state ≤ point }
+        requires to { point ≤ length (R.Readable.states self.now.monitor.log) }
+        ensures { flat_map option_to_list result ≡ of_state (labels_of (table_of self.now.monitor.book) (R.Readable.states self.now.monitor.log)) point rule (slice_index_or (rules_in self.now.monitor.book) rule no_rule) state }
+    {
+        let told = |is_so: bool, event: Event| {
+            is_so.then_some(Notice {
+                rule,
+                from: state,
+                event,
+            })
+        };
+        let raising = told(state == point, Event::Raising);
+        match self.standing_of(rule, state, point) {
+            Standing::NotRaised => [None; 2],
+            Standing::Pending => [raising, None],
+            Standing::Fulfilled(date) => [raising, told(date == point, Event::Fulfilling)],
+            Standing::Violated(date) => [raising, told(date == point, Event::Violating)],
+        }
+    }
+
+    // Adds a line for each notice that a point has on this expectation.
+    fn tell_expectation(
+        &self,
+        rule: usize,
+        state: usize,
+        point: usize,
+        lines: &mut Vec<Line>,
+    ) -> Result<(), AllocError>
+        requires rule { rule < length (rules_in self.now.monitor.book) }
+        requires from { 1 ≤ state }
+        requires by { state ≤ point }
+        requires to { point ≤ length (R.Readable.states self.now.monitor.log) }
+        ensures { OnOk result (lines.new.items ≡ lines.old.items ++ map (Told point) (of_state (labels_of (table_of self.now.monitor.book) (R.Readable.states self.now.monitor.log)) point rule (slice_index_or (rules_in self.now.monitor.book) rule no_rule) state)) }
+    {
+        // Not by `flatten`: an invariant would have to say what its source and its inner iterators have left.
+        for told in self.notices_of(rule, state, point) {
+            if let Some(notice) = told {
+                lines.push(Line::Told { point, notice })?;
+            }
+        }
+        Ok(())
+    }
+
+    // Adds a line for each notice that a point has on a rule's expectations, in the order of their states.
+    #[tactic(auto, using(crate::proofs::Telling::state_more, std::proofs::lemmas::Grind::common_steps))]
+    fn tell_rule(&self, rule: usize, point: usize, lines: &mut Vec<Line>) -> Result<(), AllocError>
+        requires rule { rule < length (rules_in self.now.monitor.book) }
+        requires from { 1 ≤ point }
+        requires to { point ≤ length (R.Readable.states self.now.monitor.log) }
+        ensures { OnOk result (lines.new.items ≡ lines.old.items ++ map (Told point) (from_state (labels_of (table_of self.now.monitor.book) (R.Readable.states self.now.monitor.log)) point rule (slice_index_or (rules_in self.now.monitor.book) rule no_rule) point 1)) }
+    {
+        // Not `1..=`, after which it is not known where an empty loop ends.
+        for state in 1..point + 1 {
+            self.tell_expectation(rule, state, point, lines)?;
+        }
+        Ok(())
+    }
+
+    // Adds a line for each notice of a point that was accepted, in one pass through the rules and the states up to it.
+    #[tactic(auto, using(crate::proofs::Telling::rule_more, std::proofs::lemmas::Grind::common_steps))]
     pub(crate) fn tell_point(&self, point: usize, lines: &mut Vec<Line>) -> Result<(), AllocError>
         requires from { 1 ≤ point }
         requires to { point ≤ length (R.Readable.states self.now.monitor.log) }
         ensures { OnOk result (lines.new.items ≡ lines.old.items ++ map (Told point) (notices (labels_of (table_of self.now.monitor.book) (R.Readable.states self.now.monitor.log)) (rules_in self.now.monitor.book) point)) }
     {
-        // By number: a monitor is asked for the k-th notice until there is none.
-        let start = lines.len();
-        while let Some(notice) = self.notice_at(point, lines.len() - start) {
-            lines.push(Line::Told { point, notice })?;
+        // By number: a monitor is asked for the standings of rule k.
+        for rule in 0..self.rules {
+            self.tell_rule(rule, point, lines)?;
         }
         Ok(())
     }
