@@ -1,0 +1,201 @@
+//! Both sides timed in turn, over the same inputs.
+
+use crate::ffi;
+use crate::random::Random;
+use crate::sketches::{self, Line, Rules};
+use bench::plain::{calls, watch, Dated, Kind, Strip};
+use std::hint::black_box;
+use std::time::Instant;
+
+const REPETITIONS: usize = 9;
+/// A sample takes at least so many seconds, if its call is shorter.
+const SAMPLE: f64 = 0.004;
+const CLOSED: [&str; 11] = ["true", "signal", "mark", "not", "and", "or", "next", "prev", "until", "since", "at"];
+
+pub struct Row {
+    pub what: String,
+    /// Microseconds.
+    pub ours: f64,
+    pub plain: f64,
+}
+
+pub fn table() -> Vec<Row> {
+    let bare = bare_rules();
+    let binders = binder_rules();
+    let long = trace(256);
+    let short = trace(64);
+    let of = |rules: &Rules, trace: &[Line]| (rules.text() + &sketches::trace_text(trace)).into_bytes();
+    let mut rows = vec![
+        dated("label 64 formulas x 256 states, dated", &of(&bare, &long), 64 * 256),
+        dated("the same with 8 binders", &of(&binders, &long), 64 * 256),
+        strips("label 64 formulas x 64 states, strips", &of(&bare, &short), 64 * 64),
+        strips("the same with 8 binders", &of(&binders, &short), 64 * 64),
+    ];
+    rows.push(appends("256 appends, 64 formulas, 16 rules", &of(&bare, &long)));
+    rows.push(reading_rules("read a rules text, 64 formulas, 16 rules", bare.text().as_bytes()));
+    rows.push(reading_states("read 256 trace lines", sketches::trace_text(&long).as_bytes()));
+    let input = of(&binders, &long);
+    rows.push(watching(&format!("watch {} bytes, with 8 binders", input.len()), &input, b"end states=256"));
+    let mut input = of(&bare, &long);
+    while input.len() < 32_768 {
+        input.extend(b"s=257 signals=1 mark=0 ka=0 ta=0 kb=0 tb=0\n");
+    }
+    input.truncate(32_768);
+    rows.push(watching("watch 32768 bytes, refused at state 257", &input, b"refused=3 line=339"));
+    rows
+}
+
+/// 64 formulas without binders, and 16 rules.
+fn bare_rules() -> Rules {
+    let mut random = Random::new(64);
+    let mut rules = Rules::default();
+    while rules.formulas.len() < 64 {
+        rules.grow(&mut random, &CLOSED);
+    }
+    add_rules(&mut rules);
+    rules
+}
+
+/// 64 formulas with four `bind` and four `some` over loose `until` and `since`, and 16 rules.
+fn binder_rules() -> Rules {
+    let mut random = Random::new(65);
+    let mut rules = Rules::default();
+    let always = rules.add("true", 0, 0);
+    for kind in 1..=4 {
+        let link = rules.add("link", kind, 0);
+        let later = rules.add("until", always, link);
+        rules.add("bind", later, 0);
+        let signal = rules.add("signal", kind, 0);
+        let here = rules.add("var", 0, 0);
+        let both = rules.add("and", signal, here);
+        let earlier = rules.add("since", always, both);
+        rules.add("some", kind, earlier);
+    }
+    while rules.formulas.len() < 64 {
+        rules.grow(&mut random, &CLOSED);
+        if rules.formulas.last().is_some_and(|formula| formula.loose) {
+            rules.formulas.pop();
+        }
+    }
+    add_rules(&mut rules);
+    rules
+}
+
+/// Adds 16 rules, half of them with a condition that always holds.
+fn add_rules(rules: &mut Rules) {
+    let closed = rules.closed();
+    let always = rules.formulas.iter().position(|formula| formula.operator == "true").unwrap_or(0) as u64;
+    for k in 0..16 {
+        let when = if k % 2 == 0 { always } else { closed[k] };
+        rules.rules.push((when, closed[closed.len() - 1 - k]));
+    }
+}
+
+/// A lawful trace with long numbers, and two references in most states.
+fn trace(states: usize) -> Vec<Line> {
+    let mut random = Random::new(256);
+    let link = |random: &mut Random, earlier: usize| match earlier {
+        0 => (0, 0),
+        _ => (random.between(1, 5) as u64, random.between(earlier.div_ceil(2), earlier) as u64),
+    };
+    (0..states)
+        .map(|earlier| {
+            let signals = random.number() & random.number() & 0x7FFF_FFFF | 1 << 31;
+            let ((ka, ta), (kb, tb)) = (link(&mut random, earlier), link(&mut random, earlier));
+            [signals, earlier as u64, ka, ta, kb, tb]
+        })
+        .collect()
+}
+
+fn dated(what: &str, text: &[u8], cells: usize) -> Row {
+    let mut ours = vec![0; cells];
+    let mut plain = vec![Dated::OPEN; cells];
+    labelling(
+        what,
+        |again| assert_eq!(ffi::label_dated(black_box(text), again, black_box(&mut ours)).refused, 0),
+        |again| assert_eq!(calls::label(black_box(text), again, black_box(&mut plain)).refused, 0),
+    )
+}
+
+fn strips(what: &str, text: &[u8], cells: usize) -> Row {
+    let (mut weak, mut strong) = (vec![0; cells], vec![0; cells]);
+    let mut plain = vec![Strip::OPEN; cells];
+    labelling(
+        what,
+        |again| assert_eq!(ffi::label_strips(black_box(text), again, black_box(&mut weak), &mut strong).refused, 0),
+        |again| assert_eq!(calls::label(black_box(text), again, black_box(&mut plain)).refused, 0),
+    )
+}
+
+/// The time of one labelling: that of many over one reading, less that of one, shared among the others.
+fn labelling(what: &str, mut ours: impl FnMut(usize), mut plain: impl FnMut(usize)) -> Row {
+    let longer = seconds(|| ours(1)).max(seconds(|| plain(1)));
+    let again = (SAMPLE / longer).ceil().clamp(4.0, 2000.0) as usize;
+    let mut one = [f64::MAX; 2];
+    let mut many = [f64::MAX; 2];
+    for _ in 0..REPETITIONS {
+        one[0] = one[0].min(seconds(|| ours(0)));
+        one[1] = one[1].min(seconds(|| plain(0)));
+        many[0] = many[0].min(seconds(|| ours(again)));
+        many[1] = many[1].min(seconds(|| plain(again)));
+    }
+    let share = |side: usize| (many[side] - one[side]) * 1e6 / again as f64;
+    Row { what: what.to_string(), ours: share(0), plain: share(1) }
+}
+
+fn appends(what: &str, text: &[u8]) -> Row {
+    calls_of(
+        what,
+        || assert_eq!(ffi::append(black_box(text)).count, 256),
+        || assert_eq!(calls::append(black_box(text)).count, 256),
+    )
+}
+
+fn reading_rules(what: &str, text: &[u8]) -> Row {
+    calls_of(
+        what,
+        || assert_eq!(ffi::rules(black_box(text)).count, text.len()),
+        || assert_eq!(calls::rules(black_box(text)).count, text.len()),
+    )
+}
+
+fn reading_states(what: &str, text: &[u8]) -> Row {
+    let (mut ours, mut plain) = ([0; 256], [0; 256]);
+    calls_of(
+        what,
+        || assert_eq!(ffi::states(black_box(text), black_box(&mut ours)), 256),
+        || assert_eq!(calls::states(black_box(text), black_box(&mut plain)), 256),
+    )
+}
+
+fn watching(what: &str, input: &[u8], last: &[u8]) -> Row {
+    let wanted = watch(input);
+    let lines = wanted.split(|&b| b == b'\n').rev().nth(1).unwrap_or(b"");
+    assert!(lines.starts_with(last), "{}", lines.escape_ascii());
+    let mut output = vec![0; wanted.len()];
+    let what = format!("{what}, {} lines out", wanted.iter().filter(|&&b| b == b'\n').count());
+    calls_of(
+        &what,
+        || assert_eq!(ffi::watch(black_box(input), black_box(&mut output)), Some(wanted.len())),
+        || assert_eq!(black_box(watch(black_box(input))).len(), wanted.len()),
+    )
+}
+
+/// The time of one call, of as many in a row as make up a sample.
+fn calls_of(what: &str, mut ours: impl FnMut(), mut plain: impl FnMut()) -> Row {
+    let shorter = seconds(&mut ours).min(seconds(&mut plain));
+    let count = (SAMPLE / shorter).ceil().clamp(1.0, 100_000.0) as usize;
+    let mut best = [f64::MAX; 2];
+    for _ in 0..REPETITIONS {
+        best[0] = best[0].min(seconds(|| (0..count).for_each(|_| ours())));
+        best[1] = best[1].min(seconds(|| (0..count).for_each(|_| plain())));
+    }
+    let [ours, plain] = best.map(|all| all * 1e6 / count as f64);
+    Row { what: what.to_string(), ours, plain }
+}
+
+fn seconds(mut work: impl FnMut()) -> f64 {
+    let start = Instant::now();
+    work();
+    start.elapsed().as_secs_f64()
+}
