@@ -45,7 +45,7 @@ pub fn input(random: &mut Random) -> Input {
                 match kind {
                     3 => damage_bytes(random, &mut bytes),
                     4 => damage_lines(random, &mut bytes),
-                    5 => damage_number(random, &mut bytes),
+                    5 => damage_numbers(random, &mut bytes),
                     _ => {}
                 }
             }
@@ -70,7 +70,9 @@ fn text(random: &mut Random, kind: usize) -> Vec<u8> {
     let mut rules = sketches::rules(random, formulas, count);
     let mut trace = sketches::trace(random, states);
     if kind == 1 {
-        sketches::spoil(random, &mut rules);
+        for _ in 0..random.between(1, 2) {
+            sketches::spoil(random, &mut rules);
+        }
     }
     if kind == 2 {
         sketches::break_law(random, &mut trace);
@@ -205,6 +207,22 @@ fn replace_one(random: &mut Random, line: &mut Vec<u8>, old: &[u8], new: &[u8]) 
         let at = random.one_of(&places);
         line.splice(at..at + old.len(), new.iter().copied());
     }
+}
+
+/// Damages one number of a line, or two of the same line, or any.
+fn damage_numbers(random: &mut Random, bytes: &mut Vec<u8>) {
+    if random.once_in(4) {
+        return damage_number(random, bytes);
+    }
+    let mut lines: Vec<Vec<u8>> = bytes.split_inclusive(|&b| b == b'\n').map(<[u8]>::to_vec).collect();
+    if lines.is_empty() {
+        return;
+    }
+    let at = random.below(lines.len());
+    for _ in 0..random.between(1, 2) {
+        damage_number(random, &mut lines[at]);
+    }
+    *bytes = lines.concat();
 }
 
 fn damage_number(random: &mut Random, bytes: &mut Vec<u8>) {

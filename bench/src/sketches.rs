@@ -7,6 +7,9 @@ pub const OPERATORS: [&str; 15] = [
     "true", "signal", "mark", "not", "and", "or", "next", "prev", "until", "since", "at", "var", "link", "bind", "some",
 ];
 
+/// Numbers at the ends of ranges.
+const LIMITS: [u64; 13] = [0, 1, 15, 16, 31, 32, 63, 64, 255, 256, 257, 4_294_967_295, 4_294_967_296];
+
 #[derive(Clone)]
 pub struct Formula {
     pub operator: &'static str,
@@ -138,7 +141,7 @@ pub fn spoil(random: &mut Random, rules: &mut Rules) {
     let f = random.below(count);
     let any_rule = random.below(rules.rules.len());
     let loose = (0..count).find(|&f| rules.formulas[f].loose);
-    match random.below(7) {
+    match random.below(10) {
         0 => {
             let late = random.between(f, count + 1) as u64;
             rules.formulas[f].operator = random.one_of(&["not", "and", "or", "next", "until", "since", "bind"]);
@@ -152,6 +155,9 @@ pub fn spoil(random: &mut Random, rules: &mut Rules) {
         3 => rules.rules[any_rule].1 = random.between(count, count + 2) as u64,
         4 => rules.rules[any_rule].0 = loose.unwrap_or(count) as u64,
         5 => rules.rules[any_rule].1 = loose.unwrap_or(count) as u64,
+        6 => rules.rules[any_rule] = (loose.unwrap_or(0) as u64, count as u64),
+        7 => rules.formulas[f].a = random.one_of(&LIMITS),
+        8 => rules.formulas[f].b = random.one_of(&LIMITS),
         _ => rules.formulas[f].operator = random.one_of(&OPERATORS),
     }
 }
@@ -191,7 +197,7 @@ pub fn break_law(random: &mut Random, lines: &mut [Line]) {
     let at = random.below(lines.len());
     let own = at as u64 + 1;
     let link = random.one_of(&[2, 4]);
-    match random.below(9) {
+    match random.below(10) {
         0..=2 => {
             let nominal = nominal(random);
             lines[at][1] = nominal;
@@ -203,6 +209,7 @@ pub fn break_law(random: &mut Random, lines: &mut [Line]) {
         5 => (lines[at][link], lines[at][link + 1]) = (kind(random), random.one_of(&[0, own, 256])),
         6 => (lines[at][link], lines[at][link + 1]) = (0, random.between(1, 256) as u64),
         7 => lines[at][link] = random.one_of(&[16, 17, 255, 256]),
+        8 => lines[at][random.below(6)] = random.one_of(&LIMITS),
         _ => (lines[at][2], lines[at][3], lines[at][5]) = (kind(random), own, own),
     }
 }
