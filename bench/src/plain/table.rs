@@ -21,7 +21,7 @@ impl State {
     }
 
     pub fn refers(&self, kind: u8, target: usize) -> bool {
-        self.targets(kind).any(|t| t == target)
+        self.links.iter().any(|link| link.kind == kind && usize::from(link.target) == target)
     }
 
     pub fn targets(&self, kind: u8) -> impl Iterator<Item = usize> + '_ {
