@@ -69,7 +69,7 @@ impl Counts {
             let call = format!("bench_label_dated, {room} cells, {again} again");
             let mut labels = vec![PAST; room];
             let mut wanted = vec![Dated(PAST); room];
-            let answer = calls::label(input, again, &mut wanted);
+            let answer = calls::label_dated(input, again, &mut wanted);
             let answer = same(&call, ffi::label_dated(input, again, &mut labels), answer)?;
             let wanted: Vec<i16> = wanted.iter().map(|label| label.0).collect();
             same_cells(&call, &labels, &wanted)?;
@@ -89,7 +89,7 @@ impl Counts {
             let mut weak = vec![PAST.weak; weak_room];
             let mut strong = vec![PAST.strong; strong_room];
             let mut wanted = vec![PAST; weak_room.min(strong_room)];
-            let answer = calls::label(input, again, &mut wanted);
+            let answer = calls::label_strips(input, again, &mut wanted);
             let answer = same(&call, ffi::label_strips(input, again, &mut weak, &mut strong), answer)?;
             wanted.resize(weak_room.max(strong_room), PAST);
             let wanted_weak: Vec<u64> = wanted.iter().map(|label| label.weak).take(weak_room).collect();

@@ -113,7 +113,7 @@ fn dated(what: &str, text: &[u8], cells: usize) -> Row {
     labelling(
         what,
         |again| assert_eq!(ffi::label_dated(black_box(text), again, black_box(&mut ours)).refused, 0),
-        |again| assert_eq!(calls::label(black_box(text), again, black_box(&mut plain)).refused, 0),
+        |again| assert_eq!(calls::label_dated(black_box(text), again, black_box(&mut plain)).refused, 0),
     )
 }
 
@@ -123,7 +123,7 @@ fn strips(what: &str, text: &[u8], cells: usize) -> Row {
     labelling(
         what,
         |again| assert_eq!(ffi::label_strips(black_box(text), again, black_box(&mut weak), &mut strong).refused, 0),
-        |again| assert_eq!(calls::label(black_box(text), again, black_box(&mut plain)).refused, 0),
+        |again| assert_eq!(calls::label_strips(black_box(text), again, black_box(&mut plain)).refused, 0),
     )
 }
 

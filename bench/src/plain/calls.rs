@@ -1,6 +1,6 @@
 //! The calls that the monitor's library offers, answered by the plain implementation.
 
-use super::{label_whole, read_rules, read_state, Fault, Kind, Monitor, Refusal, State};
+use super::{label_whole, read_rules, read_state, Dated, Fault, Kind, Monitor, Refusal, State, Strip};
 use std::hint::black_box;
 
 /// A refusal's number and place, 0 and 0 if nothing was refused; and a count, 0 if a call brought nothing.
@@ -63,8 +63,13 @@ pub fn states(text: &[u8], signals: &mut [u32]) -> usize {
     count
 }
 
-/// Reads a rules text and the states after it, and labels them whole `again` times more than once.
-pub fn label<K: Kind>(text: &[u8], again: usize, labels: &mut [K]) -> Answer {
+/// Reads a rules text and the states after it, and labels them whole `again` times more than once, in dated labels.
+pub fn label_dated(text: &[u8], again: usize, labels: &mut [Dated]) -> Answer {
+    told(labelled(text, again, labels))
+}
+
+/// The same in strips.
+pub fn label_strips(text: &[u8], again: usize, labels: &mut [Strip]) -> Answer {
     told(labelled(text, again, labels))
 }
 

@@ -287,12 +287,12 @@ fn calls_of_the_library() {
     let mut signals = [9; 3];
     assert_eq!((calls::states(TRACE, &mut signals), signals), (2, [1, 2, 9]));
     let mut labels = [Dated(99); 9];
-    assert_eq!(calls::label(&text, 2, &mut labels), answer(0, 0, 2));
+    assert_eq!(calls::label_dated(&text, 2, &mut labels), answer(0, 0, 2));
     assert_eq!(labels.map(|label| label.0), [256, -255, -256, 255, 256, 255, 255, 255, 99]);
-    assert_eq!(calls::label(&text, 0, &mut labels[..7]), answer(9, 0, 0));
+    assert_eq!(calls::label_dated(&text, 0, &mut labels[..7]), answer(9, 0, 0));
     let twice = [&text[..], b"s=3 signals=2 mark=7 ka=1 ta=1 kb=0 tb=0\n"].concat();
     assert_eq!(calls::append(&twice), answer(10, 3, 2));
-    assert_eq!(calls::label(&twice, 0, &mut [Dated::OPEN; 20]), answer(10, 3, 0));
+    assert_eq!(calls::label_dated(&twice, 0, &mut [Dated::OPEN; 20]), answer(10, 3, 0));
 }
 
 #[test]
