@@ -56,6 +56,7 @@ impl Counts {
                 break;
             }
         }
+        same("bench_watch, no room", ffi::watch(input, &mut []), None)?;
         let short = vec![SENTINEL; wanted.len() - 1];
         let mut output = short.clone();
         same("bench_watch, one byte short", ffi::watch(input, &mut output), None)?;

@@ -17,6 +17,7 @@ use std::io;
 use std::path::Path;
 use std::process::ExitCode;
 use std::time::Instant;
+use timing::Row;
 
 const INPUTS: usize = 40_000;
 const SEED: u64 = 20_261;
@@ -39,11 +40,17 @@ fn main() -> ExitCode {
     }
     println!();
     println!("{}", machine());
-    println!("{:<60} {:>12} {:>12} {:>7}", "what", "ours", "plain", "ratio");
-    for row in timing::table() {
+    print_times("what", &timing::table());
+    println!();
+    print_times("label 256 states whole, dated", &timing::by_operator());
+    ExitCode::SUCCESS
+}
+
+fn print_times(title: &str, rows: &[Row]) {
+    println!("{:<60} {:>12} {:>12} {:>7}", title, "ours", "plain", "ratio");
+    for row in rows {
         println!("{:<60} {:>12.2} {:>12.2} {:>7.2}", row.what, row.ours, row.plain, row.ours / row.plain);
     }
-    ExitCode::SUCCESS
 }
 
 fn failed(told: &str) -> ExitCode {

@@ -45,6 +45,57 @@ pub fn table() -> Vec<Row> {
     rows
 }
 
+/// Whole labelling of tables that are mostly of one operator, dated, over 256 states.
+pub fn by_operator() -> Vec<Row> {
+    let trace = sketches::trace_text(&trace(256));
+    let of = |what: &str, rules: &Rules| dated(what, (rules.text() + &trace).as_bytes(), rules.formulas.len() * 256);
+    let mut rows: Vec<Row> =
+        CLOSED.iter().map(|operator| of(&format!("62 x {operator}"), &one_operator(operator))).collect();
+    for body in ["var", "link 1", "not link 1", "true and link 1", "true until link 1", "true since link 1"] {
+        rows.push(of(&format!("4 x bind ({body})"), &four_binders("bind", body)));
+    }
+    rows.push(of("4 x some 1 (link 1)", &four_binders("some", "link 1")));
+    rows
+}
+
+/// Two signals and 62 formulas of one operator over them and one another.
+fn one_operator(operator: &'static str) -> Rules {
+    let mut rules = Rules::default();
+    rules.add("signal", 0, 0);
+    rules.add("signal", 1, 0);
+    for f in 2..64 {
+        match operator {
+            "true" => rules.add(operator, 0, 0),
+            "signal" | "mark" => rules.add(operator, f % 31 + 1, 0),
+            "at" => rules.add(operator, f, f - 2),
+            "not" | "next" | "prev" => rules.add(operator, f - 2, 0),
+            _ => rules.add(operator, f - 2, f % 2),
+        };
+    }
+    rules.rules.push((0, 1));
+    rules
+}
+
+/// Four binders over a loose formula, which is made of one or two.
+fn four_binders(operator: &'static str, body: &str) -> Rules {
+    let mut rules = Rules::default();
+    let always = rules.add("true", 0, 0);
+    let loose = if body == "var" { rules.add("var", 0, 0) } else { rules.add("link", 1, 0) };
+    let body = match body {
+        "not link 1" => rules.add("not", loose, 0),
+        "true and link 1" => rules.add("and", always, loose),
+        "true until link 1" => rules.add("until", always, loose),
+        "true since link 1" => rules.add("since", always, loose),
+        _ => loose,
+    };
+    for _ in 0..4 {
+        let (a, b) = if operator == "some" { (1, body) } else { (body, 0) };
+        rules.add(operator, a, b);
+    }
+    rules.rules.push((0, 0));
+    rules
+}
+
 /// 64 formulas without binders, and 16 rules.
 fn bare_rules() -> Rules {
     let mut random = Random::new(64);
