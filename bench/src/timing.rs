@@ -7,7 +7,7 @@ use bench::plain::{calls, watch, Dated, Kind, Strip};
 use std::hint::black_box;
 use std::time::Instant;
 
-const REPETITIONS: usize = 9;
+const REPETITIONS: usize = 21;
 /// A sample takes at least so many seconds, if its call is shorter.
 const SAMPLE: f64 = 0.004;
 const CLOSED: [&str; 11] = ["true", "signal", "mark", "not", "and", "or", "next", "prev", "until", "since", "at"];

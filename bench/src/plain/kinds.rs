@@ -46,7 +46,7 @@ impl Kind for Dated {
 
     fn seen_from(self, point: usize) -> Dated {
         let most = 257 - point as i16;
-        Dated(self.0.clamp(-most, most))
+        Dated(self.0.min(most).max(-most))
     }
 }
 
