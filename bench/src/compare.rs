@@ -31,15 +31,20 @@ impl Counts {
 
     pub fn compare(&mut self, input: &[u8]) -> Result<(), Difference> {
         self.watch(input)?;
+        self.compare_labels(input)?;
+        let append = same("bench_append", ffi::append(input), calls::append(input))?;
+        self.note(4, append.refused);
+        Ok(())
+    }
+
+    /// All but the calls that append state by state.
+    pub fn compare_labels(&mut self, input: &[u8]) -> Result<(), Difference> {
         let rules = same("bench_read_rules", ffi::rules(input), calls::rules(input))?;
         self.note(1, rules.refused);
         states(input)?;
         states(trace_part(input, rules))?;
         self.dated(input, rules)?;
-        self.strips(input, rules)?;
-        let append = same("bench_append", ffi::append(input), calls::append(input))?;
-        self.note(4, append.refused);
-        Ok(())
+        self.strips(input, rules)
     }
 
     fn watch(&mut self, input: &[u8]) -> Result<(), Difference> {

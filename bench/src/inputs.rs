@@ -3,7 +3,7 @@
 use crate::random::Random;
 use crate::sketches::{self, OPERATORS};
 
-const LONGEST_INPUT: usize = 32_768;
+pub const LONGEST_INPUT: usize = 32_768;
 
 pub const KINDS: [&str; 9] = [
     "orderly",
@@ -77,6 +77,13 @@ fn text(random: &mut Random, kind: usize) -> Vec<u8> {
     if kind == 2 {
         sketches::break_law(random, &mut trace);
     }
+    (rules.text() + &sketches::trace_text(&trace)).into_bytes()
+}
+
+/// As many formulas and states as there may be.
+pub fn full_size(random: &mut Random) -> Vec<u8> {
+    let rules = sketches::rules(random, 64, 16);
+    let trace = sketches::trace(random, 256);
     (rules.text() + &sketches::trace_text(&trace)).into_bytes()
 }
 

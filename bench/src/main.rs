@@ -17,10 +17,12 @@ use std::io;
 use std::path::Path;
 use std::process::ExitCode;
 use std::time::Instant;
-use timing::Row;
+use timing::{Row, Timed};
 
 const INPUTS: usize = 40_000;
 const SEED: u64 = 20_261;
+/// So many inputs of full size, whose labels alone are compared: to append all their states would take long.
+const FULL_SIZE: usize = 40;
 /// The refusals that these calls can give.
 const REFUSALS: [u8; 10] = [0, 1, 2, 3, 4, 5, 7, 9, 10, 11];
 
@@ -38,9 +40,13 @@ fn main() -> ExitCode {
     if let Err(told) = compared(count, seed) {
         return failed(&told);
     }
+    let timed = Timed::new();
+    if let Err(told) = compared_large(&timed, seed) {
+        return failed(&told);
+    }
     println!();
     println!("{}", machine());
-    print_times("what", &timing::table());
+    print_times("what", &timed.table());
     println!();
     print_times("label 256 states whole, dated", &timing::by_operator());
     ExitCode::SUCCESS
@@ -95,6 +101,21 @@ fn compared(count: u64, seed: u64) -> Result<(), String> {
     print_counts("inputs by kind and refusal of watch", &KINDS, &by_kind);
     println!();
     print_counts("calls by refusal", &CALLS, &counts.by_call);
+    Ok(())
+}
+
+fn compared_large(timed: &Timed, seed: u64) -> Result<(), String> {
+    let mut random = Random::new(seed);
+    let mut counts = Counts::default();
+    for input in timed.inputs() {
+        counts.compare(input).map_err(|difference| told(input, &difference))?;
+    }
+    for _ in 0..FULL_SIZE {
+        let input = inputs::full_size(&mut random);
+        counts.compare_labels(&input).map_err(|difference| told(&input, &difference))?;
+    }
+    println!();
+    println!("no difference over the {} timed inputs, nor in labels of {FULL_SIZE} of full size", timed.inputs().len());
     Ok(())
 }
 

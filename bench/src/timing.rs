@@ -1,6 +1,7 @@
 //! Both sides timed in turn, over the same inputs.
 
 use crate::ffi;
+use crate::inputs::LONGEST_INPUT;
 use crate::random::Random;
 use crate::sketches::{self, Line, Rules};
 use bench::plain::{calls, watch, Dated, Kind, Strip};
@@ -19,30 +20,51 @@ pub struct Row {
     pub plain: f64,
 }
 
-pub fn table() -> Vec<Row> {
-    let bare = bare_rules();
-    let binders = binder_rules();
-    let long = trace(256);
-    let short = trace(64);
-    let of = |rules: &Rules, trace: &[Line]| (rules.text() + &sketches::trace_text(trace)).into_bytes();
-    let mut rows = vec![
-        dated("label 64 formulas x 256 states, dated", &of(&bare, &long), 64 * 256),
-        dated("the same with 8 binders", &of(&binders, &long), 64 * 256),
-        strips("label 64 formulas x 64 states, strips", &of(&bare, &short), 64 * 64),
-        strips("the same with 8 binders", &of(&binders, &short), 64 * 64),
-    ];
-    rows.push(appends("256 appends, 64 formulas, 16 rules", &of(&bare, &long)));
-    rows.push(reading_rules("read a rules text, 64 formulas, 16 rules", bare.text().as_bytes()));
-    rows.push(reading_states("read 256 trace lines", sketches::trace_text(&long).as_bytes()));
-    let input = of(&binders, &long);
-    rows.push(watching(&format!("watch {} bytes, with 8 binders", input.len()), &input, b"end states=256"));
-    let mut input = of(&bare, &long);
-    while input.len() < 32_768 {
-        input.extend(b"s=257 signals=1 mark=0 ka=0 ta=0 kb=0 tb=0\n");
+/// The inputs that are timed.
+pub struct Timed {
+    rules: Vec<u8>,
+    trace: Vec<u8>,
+    /// Without binders and with them, 256 states and 64.
+    bare: [Vec<u8>; 2],
+    binders: [Vec<u8>; 2],
+    /// The longest input there is, refused after 256 states.
+    refused: Vec<u8>,
+}
+
+impl Timed {
+    pub fn new() -> Timed {
+        let (bare, binders) = (bare_rules().text(), binder_rules().text());
+        let traces = [trace(256), trace(64)].map(|lines| sketches::trace_text(&lines));
+        let over = |rules: &str| [0, 1].map(|k| (rules.to_string() + &traces[k]).into_bytes());
+        let line = b"s=257 signals=1 mark=0 ka=0 ta=0 kb=0 tb=0\n";
+        let refused = over(&bare)[0].iter().chain(line.iter().cycle()).copied().take(LONGEST_INPUT).collect();
+        Timed {
+            bare: over(&bare),
+            binders: over(&binders),
+            rules: bare.into_bytes(),
+            trace: traces[0].clone().into_bytes(),
+            refused,
+        }
     }
-    input.truncate(32_768);
-    rows.push(watching("watch 32768 bytes, refused at state 257", &input, b"refused=3 line=339"));
-    rows
+
+    pub fn inputs(&self) -> [&[u8]; 5] {
+        [&self.bare[0], &self.binders[0], &self.bare[1], &self.binders[1], &self.refused]
+    }
+
+    pub fn table(&self) -> Vec<Row> {
+        let watched = format!("watch {} bytes, with 8 binders", self.binders[0].len());
+        vec![
+            dated("label 64 formulas x 256 states, dated", &self.bare[0], 64 * 256),
+            dated("the same with 8 binders", &self.binders[0], 64 * 256),
+            strips("label 64 formulas x 64 states, strips", &self.bare[1], 64 * 64),
+            strips("the same with 8 binders", &self.binders[1], 64 * 64),
+            appends("256 appends, 64 formulas, 16 rules", &self.bare[0]),
+            reading_rules("read a rules text, 64 formulas, 16 rules", &self.rules),
+            reading_states("read 256 trace lines", &self.trace),
+            watching(&watched, &self.binders[0], b"end states=256"),
+            watching("watch 32768 bytes, refused at state 257", &self.refused, b"refused=3 line=339"),
+        ]
+    }
 }
 
 /// Whole labelling of tables that are mostly of one operator, dated, over 256 states.
