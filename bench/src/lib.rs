@@ -1,0 +1,3 @@
+//! The expectation monitor once more, in plain Rust.
+
+pub mod plain;
