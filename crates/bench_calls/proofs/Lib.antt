@@ -1,0 +1,4 @@
+pub mod Labellings
+pub mod Overs
+pub mod Gathered
+pub mod Appends

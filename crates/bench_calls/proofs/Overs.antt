@@ -1,0 +1,36 @@
+-- Memory that is written over item by item. Assumes nothing.
+use Rattle.std.proofs.Common.{◌≡◌, ℕ, zero, suc, ◌+◌, ◌<◌, ◌≤◌, min, List, [], ◌∷◌, ◌++◌, map, length, get_or, set, take, drop, refl, ap, ◌∙◌, arith}
+use Rattle.bench_calls.specs.Memory.{over}
+
+pub over_none : {A : Type 0} (ys : List A) → over [] ys ≡ ys
+over_none ys = refl
+
+-- one item more
+pub over_more : {X A : Type 0} (f : X → A) (xs : List X) (ys : List A) (k : ℕ) (d : X) → k < length xs → k < length ys
+    → set (over (map f (take k xs)) ys) k (f (get_or xs k d)) ≡ over (map f (take (suc k) xs)) ys
+over_more f [] ys k d h g = absurd (omega arith)
+over_more f (x ∷ xs) [] k d h g = absurd (omega arith)
+over_more f (x ∷ xs) (y ∷ ys) zero d h g = refl
+over_more f (x ∷ xs) (y ∷ ys) (suc k) d h g = ap (λ z. f x ∷ z) (over_more f xs ys k d (omega arith) (omega arith))
+
+-- no more than the memory has room for
+pub over_room : {A : Type 0} (xs ys : List A) (k : ℕ) → min (length xs) (length ys) ≤ k → over (take k xs) ys ≡ over xs ys
+over_room [] ys zero h = refl
+over_room [] ys (suc k) h = refl
+over_room (x ∷ xs) [] zero h = refl
+over_room (x ∷ xs) [] (suc k) h = refl
+over_room (x ∷ xs) (y ∷ ys) zero h = absurd (omega arith)
+over_room (x ∷ xs) (y ∷ ys) (suc k) h = ap (λ z. x ∷ z) (over_room xs ys k (omega arith))
+
+-- where there is room for all
+pub over_all : {A : Type 0} (xs ys : List A) → length xs ≤ length ys → xs ++ drop (length xs) ys ≡ over xs ys
+over_all [] ys h = refl
+over_all (x ∷ xs) [] h = absurd (omega arith)
+over_all (x ∷ xs) (y ∷ ys) h = ap (λ z. x ∷ z) (over_all xs ys (omega arith))
+
+-- the same of memory that was written so far
+pub over_step : {X A : Type 0} (f : X → A) (xs : List X) (ys now : List A) (k : ℕ) (d : X) (v : A) → k < length xs → k < length ys
+    → now ≡ over (map f (take k xs)) ys → v ≡ f (get_or xs k d) → set now k v ≡ over (map f (take (k + 1) xs)) ys
+over_step f xs ys now k d v h g is e =
+    let n : suc k ≡ k + 1 = omega arith in
+    ap (λ z. set z k v) is ∙ ap (set (over (map f (take k xs)) ys) k) e ∙ over_more f xs ys k d h g ∙ ap (λ j. over (map f (take j xs)) ys) n

@@ -1,0 +1,4 @@
+pub mod Outcomes
+pub mod Memory
+pub mod Watching
+pub mod Labelled
