@@ -1,5 +1,6 @@
 -- Memory that is written over item by item. Assumes nothing.
-use Rattle.std.proofs.Common.{◌≡◌, ℕ, zero, suc, ◌+◌, ◌<◌, ◌≤◌, min, List, [], ◌∷◌, ◌++◌, map, length, get_or, set, take, drop, refl, ap, ◌∙◌, arith}
+use Rattle.std.proofs.Common.{◌≡◌, ℕ, zero, suc, ◌+◌, ◌<◌, ◌≤◌, min, List, [], ◌∷◌, ◌++◌, map, length, get_or, set, take, drop, refl, sym, ap, ◌∙◌, arith}
+use Rattle.std.proofs.lemmas.List.{take-append-le, length-map, length-take-le, get_or-map, get_or-take}
 use Rattle.bench_calls.specs.Memory.{over}
 
 pub over_none : {A : Type 0} (ys : List A) → over [] ys ≡ ys
@@ -34,3 +35,35 @@ pub over_step : {X A : Type 0} (f : X → A) (xs : List X) (ys now : List A) (k 
 over_step f xs ys now k d v h g is e =
     let n : suc k ≡ k + 1 = omega arith in
     ap (λ z. set z k v) is ∙ ap (set (over (map f (take k xs)) ys) k) e ∙ over_more f xs ys k d h g ∙ ap (λ j. over (map f (take j xs)) ys) n
+
+get_or-over : {A : Type 0} (xs ys : List A) (k : ℕ) (z : A) → k < length xs → k < length ys → get_or (over xs ys) k z ≡ get_or xs k z
+get_or-over [] ys k z h g = absurd (omega arith)
+get_or-over (x ∷ xs) [] k z h g = absurd (omega arith)
+get_or-over (x ∷ xs) (y ∷ ys) zero z h g = refl
+get_or-over (x ∷ xs) (y ∷ ys) (suc k) z h g = get_or-over xs ys k z (omega arith) (omega arith)
+
+drop-over : {A : Type 0} (xs ys : List A) → drop (length xs) (over xs ys) ≡ drop (length xs) ys
+drop-over [] ys = refl
+drop-over (x ∷ xs) [] = refl
+drop-over (x ∷ xs) (y ∷ ys) = drop-over xs ys
+
+-- the first n cells, of which f tells something, written over memory that has room for it
+module _ {K A : Type 0} (f : K → A) (new rest : List K) (old now : List A) (n : ℕ) (put : now ≡ over (map f (take n (new ++ rest))) old) (there : n ≤ length new) where
+  front : take n (new ++ rest) ≡ take n new
+  front = take-append-le n new rest there
+
+  many : length (map f (take n (new ++ rest))) ≡ n
+  many = length-map (take n (new ++ rest)) f ∙ ap length front ∙ length-take-le n new there
+
+  pub put_cell : (k : ℕ) (d : K) (z : A) → k < n → n ≤ length old → get_or now k z ≡ f (get_or new k d)
+  put_cell k d z h room =
+      ap (λ ys. get_or ys k z) put
+      ∙ get_or-over (map f (take n (new ++ rest))) old k z (omega (arith, many)) (omega arith)
+      ∙ ap (λ ys. get_or (map f ys) k z) front
+      ∙ get_or-map f (take n new) k d z (omega (arith, length-take-le n new there))
+      ∙ ap f (get_or-take n new k d h)
+
+  pub put_later : drop n now ≡ drop n old
+  put_later =
+      ap (drop n) put ∙ ap (λ j. drop j (over (map f (take n (new ++ rest))) old)) (sym many)
+      ∙ drop-over (map f (take n (new ++ rest))) old ∙ ap (λ j. drop j old) many

@@ -4,7 +4,7 @@ ghost use Rattle.bench_calls.specs.Memory.{over};
 ghost use Rattle.table.specs.Tables.{formulas_of};
 ghost use Rattle.textrecord.specs.Listed.{states_of};
 ghost use Rattle.labelling.specs.Whole.{Answered, Declined, Labelled};
-ghost use Rattle.bench_calls.specs.Labelled.{Counted, TextLabelled};
+ghost use Rattle.bench_calls.specs.Labelled.{Counted, TextLabelled, DatesTold, MasksTold};
 
 use crate::gathering::gather;
 use crate::outcome::Outcome;
@@ -109,7 +109,8 @@ fn label_dated(
     work: &mut [Dated],
     labels: &mut [i16],
 ) -> Outcome
-    requires { length work.old ≡ length cells.old }
+    requires { (length cells.old ≡ 16384) × (length work.old ≡ 16384) }
+    ensures { DatesTold text.now labels.old result labels.new }
 {
     let room = labels.len().min(cells.len());
     match label_text(text, again, &mut cells[..room], &mut work[..room]) {
@@ -124,7 +125,9 @@ fn label_dated(
 // Labels the trace lines that follow a rules text in dated labels, once and as many times again, and puts their numbers at the
 // beginning of the memory.
 #[unsafe(no_mangle)]
-pub extern "C" fn bench_label_dated(text: &[u8], again: usize, labels: &mut [i16]) -> Outcome {
+pub extern "C" fn bench_label_dated(text: &[u8], again: usize, labels: &mut [i16]) -> Outcome
+    ensures { DatesTold text.now labels.old result labels.new }
+{
     let mut cells = [Dated::unknown(); MOST_LABELS];
     let mut work = [Dated::unknown(); MOST_LABELS];
     label_dated(text, again, &mut cells, &mut work, labels)
@@ -151,7 +154,8 @@ fn label_strips(
     weak: &mut [u64],
     strong: &mut [u64],
 ) -> Outcome
-    requires { length work.old ≡ length cells.old }
+    requires { (length cells.old ≡ 4096) × (length work.old ≡ 4096) }
+    ensures { MasksTold text.now weak.old strong.old result weak.new strong.new }
 {
     let room = weak.len().min(strong.len()).min(cells.len());
     match label_text(text, again, &mut cells[..room], &mut work[..room]) {
@@ -170,7 +174,9 @@ pub extern "C" fn bench_label_strips(
     again: usize,
     weak: &mut [u64],
     strong: &mut [u64],
-) -> Outcome {
+) -> Outcome
+    ensures { MasksTold text.now weak.old strong.old result weak.new strong.new }
+{
     let mut cells = [Strip::unknown(); MOST_STRIPS];
     let mut work = [Strip::unknown(); MOST_STRIPS];
     label_strips(text, again, &mut cells, &mut work, weak, strong)
