@@ -1,5 +1,5 @@
 -- States that are appended to a record one by one. Assumes nothing.
-use Rattle.std.proofs.Common.{◌≡◌, ℕ, ◌+◌, ◌<◌, ◌≤◌, List, [], ◌∷◌, ◌++◌, length, Ok, Err, Result, append_assoc, length-append, sym, ap, ◌∙◌, arith}
+use Rattle.std.proofs.Common.{◌≡◌, ℕ, ◌≤◌, List, [], ◌∷◌, ◌++◌, length, Ok, Err, Result, append_assoc, length-append, sym, ap, ◌∙◌, arith}
 use Rattle.records.specs.Growth.{Appended}
 
 pub gathered : {X U E : Type 0} (xs ys left later all : List X) (x : X) (room : ℕ) (r : Result U E) → length all ≤ room

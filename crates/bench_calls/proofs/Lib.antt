@@ -1,7 +1,7 @@
-pub mod Labellings
 pub mod Overs
 pub mod Gathered
-pub mod Appends
 pub mod Rooms
+pub mod Labellings
 pub mod Dates
 pub mod Masks
+pub mod Appends

@@ -1,6 +1,6 @@
 -- Memory that is written over item by item. Assumes nothing.
 use Rattle.std.proofs.Common.{◌≡◌, ℕ, zero, suc, ◌+◌, ◌<◌, ◌≤◌, min, List, [], ◌∷◌, ◌++◌, map, length, get_or, set, take, drop, refl, sym, ap, ◌∙◌, arith}
-use Rattle.std.proofs.lemmas.List.{take-append-le, length-map, length-take-le, get_or-map, get_or-take}
+use Rattle.std.proofs.lemmas.List.{length-map, length-take-le, get_or-map, get_or-take}
 use Rattle.bench_calls.specs.Memory.{over}
 
 pub over_none : {A : Type 0} (ys : List A) → over [] ys ≡ ys
@@ -47,23 +47,25 @@ drop-over [] ys = refl
 drop-over (x ∷ xs) [] = refl
 drop-over (x ∷ xs) (y ∷ ys) = drop-over xs ys
 
--- the first n cells, of which f tells something, written over memory that has room for it
-module _ {K A : Type 0} (f : K → A) (new rest : List K) (old now : List A) (n : ℕ) (put : now ≡ over (map f (take n (new ++ rest))) old) (there : n ≤ length new) where
-  front : take n (new ++ rest) ≡ take n new
-  front = take-append-le n new rest there
+length-over : {A : Type 0} (xs ys : List A) → length (over xs ys) ≡ length ys
+length-over [] ys = refl
+length-over (x ∷ xs) [] = refl
+length-over (x ∷ xs) (y ∷ ys) = ap suc (length-over xs ys)
 
-  many : length (map f (take n (new ++ rest))) ≡ n
-  many = length-map (take n (new ++ rest)) f ∙ ap length front ∙ length-take-le n new there
+-- what f tells of the first n cells, written over memory that has room for it
+module _ {K A : Type 0} (f : K → A) (cells : List K) (old now : List A) (n : ℕ) (put : now ≡ over (map f (take n cells)) old) (there : n ≤ length cells) where
+  many : length (map f (take n cells)) ≡ n
+  many = length-map (take n cells) f ∙ length-take-le n cells there
 
-  pub put_cell : (k : ℕ) (d : K) (z : A) → k < n → n ≤ length old → get_or now k z ≡ f (get_or new k d)
+  pub put_cell : (k : ℕ) (d : K) (z : A) → k < n → n ≤ length old → get_or now k z ≡ f (get_or cells k d)
   put_cell k d z h room =
-      ap (λ ys. get_or ys k z) put
-      ∙ get_or-over (map f (take n (new ++ rest))) old k z (omega (arith, many)) (omega arith)
-      ∙ ap (λ ys. get_or (map f ys) k z) front
-      ∙ get_or-map f (take n new) k d z (omega (arith, length-take-le n new there))
-      ∙ ap f (get_or-take n new k d h)
+      ap (λ ys. get_or ys k z) put ∙ get_or-over (map f (take n cells)) old k z (omega (arith, many)) (omega arith)
+      ∙ get_or-map f (take n cells) k d z (omega (arith, length-take-le n cells there)) ∙ ap f (get_or-take n cells k d h)
 
   pub put_later : drop n now ≡ drop n old
   put_later =
-      ap (drop n) put ∙ ap (λ j. drop j (over (map f (take n (new ++ rest))) old)) (sym many)
-      ∙ drop-over (map f (take n (new ++ rest))) old ∙ ap (λ j. drop j old) many
+      ap (drop n) put ∙ ap (λ j. drop j (over (map f (take n cells)) old)) (sym many) ∙ drop-over (map f (take n cells)) old ∙ ap (λ j. drop j old) many
+
+  -- the memory keeps its length
+  pub put_length : length now ≡ length old
+  put_length = ap length put ∙ length-over (map f (take n cells)) old

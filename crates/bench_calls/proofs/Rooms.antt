@@ -1,5 +1,5 @@
 -- Memory that is longer than any labelling needs. Assumes nothing.
-use Rattle.std.proofs.Common.{◌≡◌, ℕ, ◌+◌, ◌*◌, ◌<◌, ◌≤◌, min, List, map, length, drop, ap, ◌∙◌, arith}
+use Rattle.std.proofs.Common.{ℕ, ◌*◌, ◌<◌, ◌≤◌, min, List, length, ap, arith}
 use Rattle.std.proofs.Math.Nat.{mul-le-mul}
 use Rattle.std.proofs.lemmas.List.{length-map}
 use Rattle.logic.specs.declared.types.Formula.{Formula}
@@ -9,10 +9,12 @@ use Rattle.refusals.specs.declared.Refusal.{Refusal}
 use Rattle.refusals.specs.declared.Refusal.TheVariants as refusal
 use Rattle.rulelines.specs.Meanings.{meaning}
 use Rattle.rulestexts.specs.Texts.{Whole}
-use Rattle.textrecord.specs.Listed.{states_of}
-use Rattle.labelling.specs.Whole.{Short, Declined}
-use Rattle.bench_calls.specs.declared.outcome.Outcome.{Outcome}
-use Rattle.bench_calls.specs.Labelled.{Unlabelled, unread, declined}
+use Rattle.labelling.specs.Whole.{place, Declined}
+use Rattle.labelling.proofs.Nodes.{row_below}
+
+-- a cell of a formula and a state is one of formulas times states
+pub cell_within : (f i formulas n : ℕ) → f < formulas → 1 ≤ i → i ≤ n → place n f i < formulas * n
+cell_within f i formulas n h a b = omega (arith, row_below f formulas n h)
 
 -- a rules text has at most 64 formulas
 pub few_formulas : (text : List ℕ) (formulas : List Formula) (rules : List Rule) (used : ℕ) → Whole text formulas rules used → length formulas ≤ 64
@@ -20,10 +22,11 @@ few_formulas text formulas rules used w =
     omega (arith, w.formula_lines.counts.ranged.1, ap length w.means, length-map w.entries meaning)
 
 module _ (reach most room : ℕ) (enough : 64 * reach ≤ most) where
-  total_within : (formulas n : ℕ) → formulas ≤ 64 → n ≤ reach → formulas * n ≤ most
+  pub total_within : (formulas n : ℕ) → formulas ≤ 64 → n ≤ reach → formulas * n ≤ most
   total_within formulas n f h = let m : formulas * n ≤ 64 * reach = mul-le-mul f h in omega arith
 
-  declined_alike : (table : List Formula) (xs : List State) (why : Refusal) → length table ≤ 64
+  -- whole labelling declines as it does in all the room
+  pub declined_alike : (table : List Formula) (xs : List State) (why : Refusal) → length table ≤ 64
       → Declined table xs reach (min room most) (min room most) why → Declined table xs reach room room why
   declined_alike table xs refusal.TooManyStates few d = d
   declined_alike table xs refusal.MemoryTooShort few d =
@@ -36,8 +39,3 @@ module _ (reach most room : ℕ) (enough : 64 * reach ≤ most) where
   declined_alike table xs refusal.LooseFormula few d = d
   declined_alike table xs refusal.NoSuchState few d = d
   declined_alike table xs refusal.NoSuchPoint few d = d
-
-  pub unlabelled_alike : (text : List ℕ) (o : Outcome) → Unlabelled reach (min room most) text o → Unlabelled reach room text o
-  unlabelled_alike text o (unread e r is) = unread e r is
-  unlabelled_alike text o (declined formulas rules used why w d is) =
-      declined formulas rules used why w (declined_alike formulas (states_of (drop used text)) why (few_formulas text formulas rules used w) d) is

@@ -3,6 +3,8 @@
 
 mod appending;
 mod gathering;
+mod in_dates;
+mod in_strips;
 mod labelled;
 mod memory;
 mod outcome;

@@ -1,11 +1,15 @@
-// Writing over the beginning of memory that is lent.
-ghost use Rattle.std.specs.Prelude.{◌≡◌, ◌≤◌, length};
+ghost use Rattle.std.specs.Prelude.{◌≡◌, ◌<◌, ◌≤◌, length, MatchOption};
 ghost use Rattle.bench_calls.specs.Memory.{over};
 
-// Writes bytes over the beginning of the memory, which has room for them.
-pub(crate) fn put(bytes: &[u8], memory: &mut [u8])
-    requires { length bytes.now ≤ length memory.old }
-    ensures { memory.new ≡ over bytes.now memory.old }
+// Writes bytes over the beginning of the memory and answers how many there are, if there is room for them.
+pub(crate) fn put(bytes: &[u8], memory: &mut [u8]) -> Option<usize>
+    ensures { MatchOption result ((length memory.old < length bytes.now) × (memory.new ≡ memory.old))
+        (λ n. (length bytes.now ≤ length memory.old) × (n ≡ length bytes.now) × (memory.new ≡ over bytes.now memory.old)) }
 {
-    memory[..bytes.len()].copy_from_slice(bytes);
+    let n = bytes.len();
+    if n > memory.len() {
+        return None;
+    }
+    memory[..n].copy_from_slice(bytes);
+    Some(n)
 }

@@ -1,4 +1,3 @@
-ghost use Rattle.std.specs.Prelude.{◌≡◌};
 ghost use Rattle.bench_calls.specs.Watching.{Wrote};
 
 use crate::memory::put;
@@ -6,16 +5,14 @@ use std::alloc::Global;
 use watch_lib::written::output_of;
 
 // Puts what `watch` prints of the input at the beginning of the output, and answers how many bytes that is. If there is no room
-// for them, or no memory, it answers the greatest number.
+// for them, or no memory to make them in, it answers the greatest number. A number alone, since it crosses to a caller in another
+// language.
 #[unsafe(no_mangle)]
 pub extern "C" fn bench_watch(heap: Global, input: &[u8], output: &mut [u8]) -> usize
     ensures { Wrote input.now output.old result output.new }
 {
     match output_of(heap, input) {
-        Ok(text) if text.len() <= output.len() => {
-            put(text.as_bytes(), output);
-            text.len()
-        }
-        _ => usize::MAX,
+        Ok(text) => put(text.as_bytes(), output).unwrap_or(usize::MAX),
+        Err(_) => usize::MAX,
     }
 }

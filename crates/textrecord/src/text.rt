@@ -32,7 +32,7 @@ impl<'a> Readable for TextRecord<'a> {
     ghost states = { λ s. states_of s.text.now };
 
     fn count(&self) -> usize {
-        States::of(self.text).count()
+        self.states().count()
     }
 
     fn state(&self, i: usize) -> State {

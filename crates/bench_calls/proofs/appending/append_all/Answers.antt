@@ -1,4 +1,4 @@
-use Rattle.std.proofs.Common.{◌≡◌, true, is_ok, length, refl, sym, ap, ◌∙◌}
+use Rattle.std.proofs.Common.{length, refl, sym, ap, ◌∙◌}
 use Rattle.refusals.specs.Numbers.{told}
 use Rattle.monitor.specs.declared.live.Monitor.{Monitor}
 use Rattle.monitor.specs.Book.{ground_of}

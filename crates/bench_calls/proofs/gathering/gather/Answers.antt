@@ -1,4 +1,4 @@
-use Rattle.std.proofs.Common.{length, subst, sym, ◌∙◌, ap, arith, ◌≤◌}
+use Rattle.std.proofs.Common.{length, ◌∙◌, arith, ◌≤◌}
 use Rattle.textrecord.proofs.Next.{few}
 use Rattle.textrecord.specs.Listed.{states_of}
 use Rattle.textrecord.specs.Left.{states_left}

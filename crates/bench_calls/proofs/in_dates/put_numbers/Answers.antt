@@ -1,9 +1,9 @@
-use Rattle.std.proofs.Common.{◌≡◌, ap, ◌∙◌, arith}
+use Rattle.std.proofs.Common.{ap, ◌∙◌, arith}
 use Rattle.std.proofs.lemmas.Int.{to_z-of_z, ints}
 use mir.Val.{SFits}
 use mir.Syntax.{w16}
 use Rattle.bench_calls.proofs.Overs.{over_step}
-use Rattle.bench_calls.proofs.labelled.put_numbers.Goals as goal
+use Rattle.bench_calls.proofs.in_dates.put_numbers.Goals as goal
 
 pub loop-k-preserved : goal.loop-k-preserved
 loop-k-preserved c =

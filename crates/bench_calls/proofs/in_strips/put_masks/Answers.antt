@@ -1,6 +1,6 @@
 use Rattle.std.proofs.Common.{ap, ◌∙◌, arith}
 use Rattle.bench_calls.proofs.Overs.{over_step}
-use Rattle.bench_calls.proofs.labelled.put_masks.Goals as goal
+use Rattle.bench_calls.proofs.in_strips.put_masks.Goals as goal
 
 pub loop-k-preserved : goal.loop-k-preserved
 loop-k-preserved c =
