@@ -1,2 +1,1 @@
 pub mod Parting
-pub mod Joining

@@ -3,11 +3,10 @@
 #![tactic(auto)]
 
 mod comparing;
-mod output;
 
 use crate::comparing::first_difference;
-use crate::output::output_of;
 use std::{env, fs, io};
+use watch_lib::written::output_of;
 
 fn folder_named(rt: &HostRuntime) -> io::Result<String> {
     match env::args(rt)?.nth(1) {

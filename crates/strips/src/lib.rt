@@ -98,6 +98,20 @@ impl LabelKind for Strip {
 }
 
 impl Strip {
+    // The mask of the weak readings.
+    pub fn weak(self) -> u64
+        ensures { result ≡ self.weak }
+    {
+        self.weak
+    }
+
+    // The mask of the strong readings.
+    pub fn strong(self) -> u64
+        ensures { result ≡ self.strong }
+    {
+        self.strong
+    }
+
     // The point from which the label is true, or 0 if it is true at none: that of the lowest set bit. 0, since a date is
     // defined as a number.
     #[tactic(auto, using(crate::proofs::Bits::bit_zero, crate::proofs::Bits::lowest_within, crate::proofs::Bits::lowest_here, crate::proofs::Bits::lowest_below))]

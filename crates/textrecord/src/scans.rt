@@ -6,7 +6,7 @@ use traces::states::read_state;
 
 // The states of a text's leading lines that pass, one after another: each is read after the count of those before it.
 #[derive(Drop)]
-pub(crate) struct States<'a> {
+pub struct States<'a> {
     text: &'a [u8],
     count: usize,
 }

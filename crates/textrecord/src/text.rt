@@ -12,10 +12,19 @@ pub struct TextRecord<'a> {
 }
 
 impl<'a> TextRecord<'a> {
+    ghost use Rattle.textrecord.specs.Left.{states_left};
+
     pub fn new(text: &'a [u8]) -> TextRecord<'a>
         ensures { result.text.now ≡ text.now }
     {
         TextRecord { text }
+    }
+
+    // The states, one after another; each line is read once.
+    pub fn states(&self) -> States<'a>
+        ensures { states_left result ≡ states_of self.now.text.now }
+    {
+        States::of(self.text)
     }
 }
 
@@ -23,7 +32,7 @@ impl<'a> Readable for TextRecord<'a> {
     ghost states = { λ s. states_of s.text.now };
 
     fn count(&self) -> usize {
-        States::of(self.text).count()
+        self.states().count()
     }
 
     fn state(&self, i: usize) -> State {

@@ -3,3 +3,4 @@ pub mod Telling
 pub mod Taking
 pub mod Walks
 pub mod Unique
+pub mod Joining

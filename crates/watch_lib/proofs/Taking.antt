@@ -27,7 +27,7 @@ uses K text v used t =
 pub rest_part : (text : List ℕ) (at : ℕ) → take (length text - at) (drop at text) ≡ drop at text
 rest_part text at = take_all (length text - at) (drop at text) (omega (arith, length-drop at text))
 
-own_refusal : (own : ℕ) (G : Ground) (xs : List State) (call : Call) → own ≡ length xs → refused_by own G xs call ≡ refusal_of G xs call
+pub own_refusal : (own : ℕ) (G : Ground) (xs : List State) (call : Call) → own ≡ length xs → refused_by own G xs call ≡ refusal_of G xs call
 own_refusal own G xs call e = ap (λ b. cond b (refusal_of G xs call) (Some refusal.ForeignRecord)) (eq-eqb own (length xs) e)
 
 pub not_taken : {A : Type 0} (own count : ℕ) (G : Ground) (xs : List State) (text : List ℕ) (x : State) (used : ℕ) (v : A) (why : Refusal) (n : ℕ)

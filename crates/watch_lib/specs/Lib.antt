@@ -2,3 +2,4 @@ pub mod Lines
 pub mod Sums
 pub mod Watched
 pub mod Laws
+pub mod Printed

@@ -1,5 +1,5 @@
 -- Lines of output, as they are written.
-use Rattle.std.specs.Prelude.{ℕ, List, [], ◌++◌, codes}
+use Rattle.std.specs.Prelude.{ℕ, List, [], ◌∷◌, ◌++◌, codes}
 use Rattle.fields.specs.Lines.{field}
 use Rattle.expectations.specs.Words.{of_event}
 use Rattle.watch_lib.specs.declared.lines.Line.{Line}
@@ -19,3 +19,8 @@ line_text (End n t) =
     (field (codes " fulfilled=") t.fulfilled
     (field (codes " violated=") t.violated
     (field (codes " open=") t.pending []))))
+
+-- lines, each with its line end
+abbrev pub lines_text : List Line → List ℕ
+lines_text [] = []
+lines_text (l ∷ ls) = line_text l ++ 10 ∷ lines_text ls

@@ -1,8 +1,10 @@
 // Lines of output as text.
 ghost use Rattle.std.specs.Prelude.{◌≡◌, IfOk, Some, string_bytes};
-ghost use Rattle.watch_lib.specs.Lines.{line_text};
+ghost use Rattle.watch_lib.specs.Lines.{line_text, lines_text};
+ghost use Rattle.watch_lib.specs.Printed.{Printed};
 
 use crate::lines::Line;
+use crate::watch::watch;
 use std::alloc::{AllocError, Global};
 use std::fmt;
 
@@ -23,4 +25,23 @@ pub fn text_of(heap: Global, line: Line) -> Result<String, AllocError>
     ensures { IfOk result (λ s. string_bytes s ≡ line_text line) }
 {
     format!(in heap; "{line}")
+}
+
+// The lines, each with its line end.
+fn joined(heap: Global, lines: &[Line]) -> Result<String, AllocError>
+    ensures { IfOk result (λ s. string_bytes s ≡ lines_text lines.now) }
+{
+    let mut text = String::new(heap);
+    for line in lines {
+        writeln!(text, "{line}")?;
+    }
+    Ok(text)
+}
+
+// What is printed of an input, as one text.
+pub fn output_of(heap: Global, input: &[u8]) -> Result<String, AllocError>
+    ensures { IfOk result (λ s. Printed input.now (string_bytes s)) }
+{
+    let lines = watch(heap, input)?;
+    joined(heap, lines.as_slice())
 }

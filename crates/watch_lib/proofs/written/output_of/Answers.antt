@@ -1,6 +1,7 @@
 use Rattle.std.proofs.Common.{◌≡◌, IfOk, Ok, Err, vec_items, string_bytes, ap, ◌∙◌}
-use Rattle.example_logs.specs.Output.{lines_text, Printed}
-use Rattle.example_logs.proofs.output.output_of.Goals as goal
+use Rattle.watch_lib.specs.Lines.{lines_text}
+use Rattle.watch_lib.specs.Printed.{Printed}
+use Rattle.watch_lib.proofs.written.output_of.Goals as goal
 
 pub returns : goal.returns
 returns c =

@@ -1,6 +1,6 @@
 use Rattle.std.proofs.Common.{string_bytes}
-use Rattle.example_logs.proofs.Joining.{text_more}
-use Rattle.example_logs.proofs.output.joined.Goals as goal
+use Rattle.watch_lib.proofs.Joining.{text_more}
+use Rattle.watch_lib.proofs.written.joined.Goals as goal
 
 pub loop-line-preserved : goal.loop-line-preserved
 loop-line-preserved c =

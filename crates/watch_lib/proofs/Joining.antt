@@ -2,8 +2,7 @@
 use Rattle.std.proofs.Common.{◌≡◌, ℕ, ◌+◌, ◌<◌, List, [], ◌∷◌, ◌++◌, length, get_or, take, sym, refl, ap, ◌∙◌, append_assoc}
 use Rattle.std.proofs.lemmas.List.{take_more}
 use Rattle.watch_lib.specs.declared.lines.Line.{Line}
-use Rattle.watch_lib.specs.Lines.{line_text}
-use Rattle.example_logs.specs.Output.{lines_text}
+use Rattle.watch_lib.specs.Lines.{line_text, lines_text}
 
 text_append : (ls : List Line) (l : Line) → lines_text (ls ++ l ∷ []) ≡ lines_text ls ++ (line_text l ++ 10 ∷ [])
 text_append [] l = refl
