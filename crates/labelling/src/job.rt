@@ -52,8 +52,11 @@ fn refers(state: State, kind: u8, v: usize) -> bool
 fn decided<K: LabelKind>(value: bool, i: usize) -> K
     ensures { Same K.reach (K.reads result) (fixed i value) }
 {
-    let label = K::true_from(i);
-    if value { label } else { label.not() }
+    if value {
+        K::true_from(i)
+    } else {
+        K::false_from(i)
+    }
 }
 
 // Fills a row with labels that are decided at their own states, as `holds` says of each place.
