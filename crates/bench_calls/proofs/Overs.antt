@@ -3,9 +3,6 @@ use Rattle.std.proofs.Common.{◌≡◌, ℕ, zero, suc, ◌+◌, ◌<◌, ◌�
 use Rattle.std.proofs.lemmas.List.{length-map, length-take-le, get_or-map, get_or-take}
 use Rattle.bench_calls.specs.Memory.{over}
 
-pub over_none : {A : Type 0} (ys : List A) → over [] ys ≡ ys
-over_none ys = refl
-
 -- one item more
 pub over_more : {X A : Type 0} (f : X → A) (xs : List X) (ys : List A) (k : ℕ) (d : X) → k < length xs → k < length ys
     → set (over (map f (take k xs)) ys) k (f (get_or xs k d)) ≡ over (map f (take (suc k) xs)) ys
@@ -36,6 +33,7 @@ over_step f xs ys now k d v h g is e =
     let n : suc k ≡ k + 1 = omega arith in
     ap (λ z. set z k v) is ∙ ap (set (over (map f (take k xs)) ys) k) e ∙ over_more f xs ys k d h g ∙ ap (λ j. over (map f (take j xs)) ys) n
 
+-- its first items are those that were written, and the later ones as they were
 get_or-over : {A : Type 0} (xs ys : List A) (k : ℕ) (z : A) → k < length xs → k < length ys → get_or (over xs ys) k z ≡ get_or xs k z
 get_or-over [] ys k z h g = absurd (omega arith)
 get_or-over (x ∷ xs) [] k z h g = absurd (omega arith)
@@ -57,11 +55,13 @@ module _ {K A : Type 0} (f : K → A) (cells : List K) (old now : List A) (n : �
   many : length (map f (take n cells)) ≡ n
   many = length-map (take n cells) f ∙ length-take-le n cells there
 
+  -- the cells are told in its first items
   pub put_cell : (k : ℕ) (d : K) (z : A) → k < n → n ≤ length old → get_or now k z ≡ f (get_or cells k d)
   put_cell k d z h room =
       ap (λ ys. get_or ys k z) put ∙ get_or-over (map f (take n cells)) old k z (omega (arith, many)) (omega arith)
       ∙ get_or-map f (take n cells) k d z (omega (arith, length-take-le n cells there)) ∙ ap f (get_or-take n cells k d h)
 
+  -- its later items are as they were
   pub put_later : drop n now ≡ drop n old
   put_later =
       ap (drop n) put ∙ ap (λ j. drop j (over (map f (take n cells)) old)) (sym many) ∙ drop-over (map f (take n cells)) old ∙ ap (λ j. drop j old) many

@@ -22,7 +22,7 @@ few_formulas text formulas rules used w =
     omega (arith, w.formula_lines.counts.ranged.1, ap length w.means, length-map w.entries meaning)
 
 module _ (reach most room : ℕ) (enough : 64 * reach ≤ most) where
-  pub total_within : (formulas n : ℕ) → formulas ≤ 64 → n ≤ reach → formulas * n ≤ most
+  total_within : (formulas n : ℕ) → formulas ≤ 64 → n ≤ reach → formulas * n ≤ most
   total_within formulas n f h = let m : formulas * n ≤ 64 * reach = mul-le-mul f h in omega arith
 
   -- whole labelling declines as it does in all the room
