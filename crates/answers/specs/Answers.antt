@@ -4,7 +4,8 @@ use Rattle.std.specs.List.{slice_get}
 use Rattle.logic.specs.declared.types.Rule.{Rule}
 use Rattle.logic.specs.declared.types.State.{State}
 use Rattle.logic.specs.Logic.{Tree}
-use Rattle.expectations.specs.Expectations.{Labels, verdict, no_rule, standing, tallied, notices}
+use Rattle.logic.specs.Tables.{no_rule}
+use Rattle.expectations.specs.Expectations.{Labels, verdict, standing, tallied, notices}
 use Rattle.refusals.specs.declared.Refusal.{Refusal}
 use Rattle.refusals.specs.declared.Refusal.TheVariants as refusal
 use Rattle.answers.specs.declared.types.Call.{Call}

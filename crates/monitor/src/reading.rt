@@ -2,7 +2,8 @@
 ghost use Rattle.std.specs.Prelude.{◌≡◌, ℕ, ◌+◌, ◌-◌, ◌*◌, ◌^◌, ◌<◌, ◌≤◌, List, [], ◌∷◌, ◌++◌, length, slice_index_or};
 ghost use Rattle.std.specs.List.{slice_get, flat_map};
 ghost use Rattle.std.specs.Option.{option_to_list};
-ghost use Rattle.expectations.specs.Expectations.{raises, standing as standing_of, tallied, added, of_state, notices, no_rule};
+ghost use Rattle.logic.specs.Tables.{no_rule};
+ghost use Rattle.expectations.specs.Expectations.{raises, standing as standing_of, tallied, added, of_state, notices};
 ghost use Rattle.monitor.specs.Book.{held, rules_in, SameButTallies, TalliesRight};
 
 use crate::book::Book;

@@ -1,6 +1,7 @@
 // The line at the end of a log.
 ghost use Rattle.std.specs.Prelude.{◌≡◌, ◌<◌, length, slice_index_or};
-ghost use Rattle.expectations.specs.Expectations.{no_rule, tallied};
+ghost use Rattle.logic.specs.Tables.{no_rule};
+ghost use Rattle.expectations.specs.Expectations.{tallied};
 ghost use Rattle.growth.specs.Growth.{labels_of};
 ghost use Rattle.monitor.specs.Book.{ground_of, table_of, rules_in};
 ghost use Rattle.watch_lib.specs.Sums.{plus as sum_of, Few};
