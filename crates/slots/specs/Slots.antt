@@ -32,8 +32,8 @@ abbrev pub shown : (signal : ℕ) → State
 shown signal = record { signals = 2 ^ signal; nominal = 0; first = no_reference; second = no_reference }
 
 -- at state 4 the slot is taken again before it was freed
-abbrev pub double_free_lem : List State
-double_free_lem = shown 0 ∷ shown 1 ∷ shown 0 ∷ shown 0 ∷ shown 1 ∷ shown 0 ∷ []
+abbrev pub double_free_log : List State
+double_free_log = shown 0 ∷ shown 1 ∷ shown 0 ∷ shown 0 ∷ shown 1 ∷ shown 0 ∷ []
 
 -- the decision is dated before the truncation point
 abbrev pub ViolatedBefore : (point : ℕ) → Standing → Type 0

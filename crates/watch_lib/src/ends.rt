@@ -5,7 +5,7 @@ ghost use Rattle.expectations.specs.Expectations.{tallied};
 ghost use Rattle.growth.specs.Growth.{labels_of};
 ghost use Rattle.monitor.specs.Book.{ground_of, table_of, rules_in};
 ghost use Rattle.watch_lib.specs.Sums.{plus as sum_of, Few};
-ghost use Rattle.watch_lib.specs.Watched.{end_line_lem};
+ghost use Rattle.watch_lib.specs.Watched.{closing_line};
 
 use crate::lines::Line;
 use crate::watcher::Watcher;
@@ -40,7 +40,7 @@ impl<R: Growing> Watcher<R> {
 
     // The end line after the states that were accepted.
     pub(crate) fn end_line(&self) -> Line
-        ensures { result ≡ end_line_lem (ground_of self.now.monitor.book (R.Growing.room self.now.monitor.log)) (R.Readable.states self.now.monitor.log) }
+        ensures { result ≡ closing_line (ground_of self.now.monitor.book (R.Growing.room self.now.monitor.log)) (R.Readable.states self.now.monitor.log) }
     {
         let mut tally = Tally::default();
         // By number: a monitor is asked for the tally of rule k. Not by `fold`: what a sum has to stay below is said in the
