@@ -51,12 +51,13 @@ module _ (own : ℕ) (G : Ground) (xs : List State) (x : State) (mine : own ≡ 
     refused_next (Ok u) h = sym (sym (fit_takes G xs x h roomy) ∙ own_refusal)
     refused_next (Err why) h = sym (refused_some why h)
 
+-- a call that no refusal fits is over the monitor's own record, and not refused there
+pub none_only : (b : Bool) (o : Option Refusal) → cond b o (Some refusal.ForeignRecord) ≡ None → (b ≡ true) × (o ≡ None)
+none_only true o h = (refl, h)
+none_only false o h = let z : ◌≡◌ {A = ℕ} 0 1 = cc in absurd (omega arith)
+
 -- an append that no refusal fits
 module _ (own : ℕ) (G : Ground) (xs : List State) (x : State) (free : refused_by own G xs (Append x) ≡ None) where
-  none_only : (b : Bool) (o : Option Refusal) → cond b o (Some refusal.ForeignRecord) ≡ None → (b ≡ true) × (o ≡ None)
-  none_only true o h = (refl, h)
-  none_only false o h = let z : ◌≡◌ {A = ℕ} 0 1 = cc in absurd (omega arith)
-
   pub own_count : own ≡ length xs
   own_count = eqb-true own (length xs) (none_only (eqb own (length xs)) (refusal_of G xs (Append x)) free).0
 
