@@ -52,7 +52,7 @@ fn print_still_violated<R: Growing>(
 
 // Appends the states one by one. After each it prints the point's notices and which expectations are still violated, and in
 // the end the tally. The first refusal ends it.
-pub fn story<R: Growing + Drop>(
+pub(crate) fn story<R: Growing + Drop>(
     rt: &HostRuntime,
     table: Table,
     log: R,
