@@ -74,13 +74,6 @@ impl<R: Growing> Monitor<R> {
         }
     }
 
-    // The record that the monitor has taken over.
-    pub fn record(&self) -> &R
-        ensures { result.now ≡ self.now.log }
-    {
-        &self.log
-    }
-
     // How many states there are, if the record's count is the monitor's.
     fn own_count(&self) -> Result<usize, Refusal>
         ensures { MatchResult result (λ n. (n ≡ length (R.Readable.states self.now.log)) × (self.now.book.count ≡ length (R.Readable.states self.now.log)))

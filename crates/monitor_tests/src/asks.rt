@@ -4,6 +4,7 @@ use expectations::types::{Event, Notice, Tally};
 use logic::types::State;
 use monitor::live::Monitor;
 use records::growing::Growing;
+use records::readable::Readable;
 use sample_states::told;
 use std::process::Abort;
 use std::test::Fail;
@@ -23,9 +24,9 @@ pub(crate) fn watched<R: Growing + Drop>(
 
 // The state is accepted, and its number is one more than the count of states before.
 pub(crate) fn accepts<R: Growing>(rt: &impl Abort, monitor: &mut Monitor<R>, state: State) {
-    let number = monitor.record().count().checked_add(1);
+    let number = monitor.count().checked_add(1);
     assert_eq!(rt; monitor.append(state).ok(), number);
-    assert_eq!(rt; Some(monitor.record().count()), number);
+    assert_eq!(rt; Some(monitor.count()), number);
 }
 
 // The append is refused so, and the record has as many states as before.
@@ -35,9 +36,9 @@ pub(crate) fn refuses<R: Growing>(
     state: State,
     expected: (u8, usize),
 ) {
-    let before = monitor.record().count();
+    let before = monitor.count();
     assert_eq!(rt; told(monitor.append(state)), Err(expected));
-    assert_eq!(rt; monitor.record().count(), before);
+    assert_eq!(rt; monitor.count(), before);
 }
 
 // The tally of a rule is raised, pending, fulfilled and violated so often.
