@@ -17,6 +17,8 @@ struct Numbers {
     content: u64,
 }
 
+// The numbers that a rule line shows. `rule_kind 0` stands for the kind of any number: the form of a line does not depend on
+// the number that is due.
 fn numbers_of(line: &[u8]) -> Option<Numbers>
     ensures { MatchOption result (ShowsNone (rule_kind 0) line.now) (λ v. Formed v.number (rule_meant v) × (line.now ≡ rule_line v.number (rule_meant v))) }
 {

@@ -12,7 +12,7 @@ use records::growing::Growing;
 use records::readable::Readable;
 use table::finished::Table;
 
-// One rule tells at most one raising and one decision for each state at a truncation point.
+// At a truncation point one rule tells at most one raising, of the point's own state, and one decision of each state.
 const MOST_NOTICES: usize = MOST_STATES + 1;
 
 fn print_notices<R: Growing>(

@@ -59,7 +59,8 @@ pub record Traced (G : Ground) (text : List ℕ) (place : ℕ) (lines : List Lin
   pub closes : Closes G states rest (place + length states) last
   pub all : lines ≡ before ++ last ∷ []
 
--- what is printed of an input
+-- What is printed of an input. It may have 32768 bytes, `MOST_BYTES` of src/watch.rt; a longer one gets 9, the number of
+-- `MemoryTooShort`, at place 0.
 pub data Watched (input : List ℕ) (lines : List Line) : Type 0 where
   too_long : 32768 < length input → lines ≡ Refused 9 0 ∷ [] → Watched input lines
   unruled : length input ≤ 32768 → (e : ReadFault) → rulesText.Refused input e → lines ≡ Refused (refusal e).number (refusal e).place ∷ [] → Watched input lines

@@ -13,7 +13,8 @@ use expectations::types::Tally;
 use records::growing::Growing;
 use records::readable::Readable;
 
-// Not `Add`: the type is another crate's.
+// Not `Add`: the type is another crate's. At most 16 tallies of 256 are added up, which is below 65536; any such bound
+// serves, so that no sum wraps.
 fn plus(a: Tally, b: Tally) -> Tally
     requires few { Few 65536 a }
     requires fewer { Few 256 b }
