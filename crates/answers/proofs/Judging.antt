@@ -6,11 +6,11 @@ use Rattle.logic.specs.declared.types.State.{State}
 use Rattle.logic.specs.States.{Trace, Begins}
 use Rattle.logic.specs.Lawful.{Lawful, LawfulRecord}
 use Rattle.logic.specs.Logic.{Holds}
+use Rattle.logic.specs.Tables.{no_rule}
 use Rattle.expectations.specs.declared.types.Verdict.{Verdict}
 use Rattle.expectations.specs.declared.types.Verdict.TheVariants as is
 use Rattle.expectations.specs.declared.types.Notice.{Notice}
 use Rattle.expectations.specs.declared.types.Tally.{Tally}
-use Rattle.expectations.specs.Expectations.{no_rule}
 use Rattle.expectations.specs.Laws.{Grows, Happens, Before}
 use Rattle.expectations.proofs.Counts.{tallies_sum_lem}
 use Rattle.expectations.proofs.Order.{notices_in_order}

@@ -3,10 +3,11 @@ use Rattle.std.proofs.Common.{◌≡◌, ℕ, zero, suc, ◌<◌, ◌≤◌, fal
 use Rattle.std.specs.List.{slice_get}
 use Rattle.std.proofs.lemmas.Bool.{leb-false, lt-leb}
 use Rattle.logic.specs.declared.types.State.{State}
+use Rattle.logic.specs.Tables.{no_rule}
 use Rattle.expectations.specs.declared.types.Verdict.{Verdict}
 use Rattle.expectations.specs.declared.types.Notice.{Notice}
 use Rattle.expectations.specs.declared.types.Tally.{Tally}
-use Rattle.expectations.specs.Expectations.{no_rule, verdict, tallied, notices}
+use Rattle.expectations.specs.Expectations.{verdict, tallied, notices}
 use Rattle.refusals.specs.declared.Refusal.TheVariants as refusal
 use Rattle.answers.specs.declared.types.Call.TheVariants.{LabelAt, StandingAt, TallyOf, NoticeOf}
 use Rattle.answers.specs.declared.types.Answer.{Answer}

@@ -1,16 +1,17 @@
 -- The tests of a state that is to follow a record mean what they are named for, so an append is taken exactly if its state may
 -- follow and the record has room.
-use Rattle.std.proofs.Common.{◌≡◌, ℕ, suc, ◌+◌, ◌<◌, ◌≤◌, Bool, true, false, eqb, leb, List, [], ◌∷◌, ◌++◌, length, None, Decides, sym, refl, subst, add-one}
-use Rattle.std.proofs.lemmas.Bool.Decides.{Decides-below_or, Decides-and, Decides-or, Decides-ltb, Decides-eqb, not_from_Decides}
-use Rattle.std.proofs.lemmas.Bool.{leb-true, leb-false, le-leb, lt-leb}
-use Rattle.logic.specs.declared.types.Reference.{Reference}
+use Rattle.std.proofs.Common.{◌≡◌, ℕ, suc, ◌+◌, ◌<◌, Bool, true, false, eqb, leb, List, [], ◌∷◌, ◌++◌, length, None, Decides, sym, refl, subst, add-one}
+use Rattle.std.proofs.lemmas.Bool.Decides.{Decides-below_or, Decides-and, Decides-ltb, Decides-eqb, not_from_Decides}
+use Rattle.std.proofs.lemmas.Bool.{leb-false, lt-leb}
 use Rattle.logic.specs.declared.types.State.{State}
 use Rattle.logic.specs.States.{state_at}
-use Rattle.logic.specs.Lawful.{NominalTaken, Unfit, ReferenceUnfit, LawfulRecord}
+use Rattle.logic.specs.Lawful.{NominalTaken, ReferenceUnfit, LawfulRecord}
+use Rattle.logic.specs.Tests.{either_unfit}
+use Rattle.logic.proofs.Tested.{either_unfit_decides}
 use Rattle.refusals.specs.declared.Refusal.TheVariants as refusal
 use Rattle.lawful.specs.Unlawful.{joined, MayFollow}
-use Rattle.lawful.proofs.Joins.{taken_joined, misled_joined, lawful_more}
-use Rattle.answers.specs.Tests.{carried_to, taken, unfit, misled}
+use Rattle.lawful.proofs.Joins.{taken_joined, unfit_joined, lawful_more}
+use Rattle.answers.specs.Tests.{carried_to, taken}
 use Rattle.answers.specs.Answers.{Ground}
 use Rattle.answers.specs.Law.{Takes}
 use Rattle.answers.proofs.Refusing.{no_reason, without_reason}
@@ -25,19 +26,8 @@ carried_decides xs a m =
 pub taken_decides : (xs : List State) (x : State) → Decides (taken xs x) (NominalTaken (joined xs x) (length xs + 1))
 taken_decides xs x = taken_joined xs x (taken xs x) (Decides-and _ _ (Decides-ltb 0 x.nominal) (carried_decides xs x.nominal (length xs)))
 
-decides_leb : (a b : ℕ) → Decides (leb a b) (a ≤ b)
-decides_leb a b = (leb-true a b, le-leb a b)
-
-unfit_decides : (l : Reference) (i : ℕ) → Decides (unfit l i) (Unfit l i)
-unfit_decides l i =
-    Decides-or _ _ (Decides-ltb 15 l.kind)
-    (Decides-or _ _ (Decides-and _ _ (Decides-eqb l.kind 0) (Decides-ltb 0 l.target))
-    (Decides-and _ _ (Decides-ltb 0 l.kind) (Decides-or _ _ (Decides-eqb l.target 0) (decides_leb i l.target))))
-
-pub misled_decides : (xs : List State) (x : State) → Decides (misled x (length xs + 1)) (ReferenceUnfit (joined xs x) (length xs + 1))
-misled_decides xs x =
-    misled_joined xs x (length xs + 1) refl (misled x (length xs + 1))
-    (Decides-or _ _ (unfit_decides x.first (length xs + 1)) (unfit_decides x.second (length xs + 1)))
+pub reference_decides : (xs : List State) (x : State) → Decides (either_unfit x (length xs + 1)) (ReferenceUnfit (joined xs x) (length xs + 1))
+reference_decides xs x = unfit_joined xs x (length xs + 1) refl (either_unfit x (length xs + 1)) (either_unfit_decides x (length xs + 1))
 
 -- a test of what is not so fails
 fails : {P : Type 0} (b : Bool) → Decides b P → (P → ⊥) → b ≡ false
@@ -49,8 +39,8 @@ takes_fit G xs x e =
     let few = no_reason (leb 256 (length xs)) refusal.TooManyStates _ e in
     let room = no_reason (leb G.capacity (length xs)) refusal.RecordFull _ few.1 in
     let free = no_reason (taken xs x) (refusal.NominalTaken (length xs + 1)) _ room.1 in
-    let led = no_reason (misled x (length xs + 1)) (refusal.ReferenceUnfit (length xs + 1)) _ free.1 in (
-      (leb-false 256 (length xs) few.0, (not_from_Decides (taken xs x) (taken_decides xs x) free.0, not_from_Decides (misled x (length xs + 1)) (misled_decides xs x) led.0)),
+    let led = no_reason (either_unfit x (length xs + 1)) (refusal.ReferenceUnfit (length xs + 1)) _ free.1 in (
+      (leb-false 256 (length xs) few.0, (not_from_Decides (taken xs x) (taken_decides xs x) free.0, not_from_Decides (either_unfit x (length xs + 1)) (reference_decides xs x) led.0)),
       leb-false G.capacity (length xs) room.0,
     )
 
@@ -59,7 +49,7 @@ fit_takes G xs x may room =
     without_reason (leb 256 (length xs)) refusal.TooManyStates _ (lt-leb 256 (length xs) may.0)
     (without_reason (leb G.capacity (length xs)) refusal.RecordFull _ (lt-leb G.capacity (length xs) room)
     (without_reason (taken xs x) (refusal.NominalTaken (length xs + 1)) _ (fails (taken xs x) (taken_decides xs x) may.1.0)
-    (without_reason (misled x (length xs + 1)) (refusal.ReferenceUnfit (length xs + 1)) None (fails (misled x (length xs + 1)) (misled_decides xs x) may.1.1) refl)))
+    (without_reason (either_unfit x (length xs + 1)) (refusal.ReferenceUnfit (length xs + 1)) None (fails (either_unfit x (length xs + 1)) (reference_decides xs x) may.1.1) refl)))
 
 pub takes_lawful : (G : Ground) (xs : List State) (x : State) → LawfulRecord xs → Takes G xs x → LawfulRecord (xs ++ x ∷ [])
 takes_lawful G xs x law e = lawful_more xs x law (takes_fit G xs x e).0.1

@@ -4,14 +4,16 @@ use Rattle.std.specs.List.{slice_get}
 use Rattle.logic.specs.declared.types.Rule.{Rule}
 use Rattle.logic.specs.declared.types.State.{State}
 use Rattle.logic.specs.Logic.{Tree}
-use Rattle.expectations.specs.Expectations.{Labels, verdict, no_rule, standing, tallied, notices}
+use Rattle.logic.specs.Tests.{either_unfit}
+use Rattle.logic.specs.Tables.{no_rule}
+use Rattle.expectations.specs.Expectations.{Labels, verdict, standing, tallied, notices}
 use Rattle.refusals.specs.declared.Refusal.{Refusal}
 use Rattle.refusals.specs.declared.Refusal.TheVariants as refusal
 use Rattle.answers.specs.declared.types.Call.{Call}
 use Rattle.answers.specs.declared.types.Call.TheVariants.{Append, LabelAt, StandingAt, TallyOf, NoticeOf}
 use Rattle.answers.specs.declared.types.Answer.{Answer}
 use Rattle.answers.specs.declared.types.Answer.TheVariants.{Number, Reads, Stands, Counts, Tells}
-use Rattle.answers.specs.Tests.{taken, misled}
+use Rattle.answers.specs.Tests.{taken}
 
 -- what a monitor stands on: the formulas as trees, how many there are and which of them are loose, the labels that a record
 -- of states gives them, the rules, and the record's capacity
@@ -37,7 +39,7 @@ refusal_of G xs (Append x) =
     or_else (nat_le 256 (length xs)) refusal.TooManyStates
     (or_else (nat_le G.capacity (length xs)) refusal.RecordFull
     (or_else (taken xs x) (refusal.NominalTaken (length xs + 1))
-    (or_else (misled x (length xs + 1)) (refusal.ReferenceUnfit (length xs + 1)) None)))
+    (or_else (either_unfit x (length xs + 1)) (refusal.ReferenceUnfit (length xs + 1)) None)))
 refusal_of G xs (LabelAt f i c) =
     or_else (nat_le G.formulas f) refusal.NoSuchName
     (or_else (G.loose f) refusal.LooseFormula

@@ -1,6 +1,6 @@
--- Whether a state may follow those of a record, as tests. The laws of a monitor say in words what they mean.
-use Rattle.std.specs.Prelude.{ℕ, zero, suc, Bool, false, ◌&&◌, ◌||◌, List, length, ◌==◌, nat_le, nat_lt}
-use Rattle.logic.specs.declared.types.Reference.{Reference}
+-- Whether the nominal of a state stands in a record already, as a test; its references are judged by `either_unfit`
+-- (logic/specs/Tests.antt). The laws of a monitor say in words what they mean.
+use Rattle.std.specs.Prelude.{ℕ, zero, suc, Bool, false, ◌&&◌, ◌||◌, List, length, ◌==◌, nat_lt}
 use Rattle.logic.specs.declared.types.State.{State}
 use Rattle.logic.specs.States.{state_at}
 
@@ -12,10 +12,3 @@ carried_to xs a (suc m) = (state_at xs (suc m)).nominal == a || carried_to xs a 
 -- the nominal of a state is one, and stands on a state of the record
 abbrev pub taken : List State → State → Bool
 taken xs x = nat_lt 0 x.nominal && carried_to xs x.nominal (length xs)
-
--- state i may not have the reference
-abbrev pub unfit : Reference → (i : ℕ) → Bool
-unfit l i = nat_lt 15 l.kind || ((l.kind == 0 && nat_lt 0 l.target) || (nat_lt 0 l.kind && (l.target == 0 || nat_le i l.target)))
-
-abbrev pub misled : State → (i : ℕ) → Bool
-misled x i = unfit x.first i || unfit x.second i

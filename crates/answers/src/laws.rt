@@ -6,6 +6,6 @@ ghost use Rattle.answers.specs.Answers.{Ground};
 ghost use Rattle.answers.specs.Law.{Founded, Judged};
 
 // Answers over lawful states, from labels that obey their laws, obey the law of a monitor.
-pub fn answers_are_judged()
+pub(crate) fn answers_are_judged()
     ensures { (G : Ground) → Founded G → (xs : List State) → LawfulRecord xs → length xs ≤ 256 → Judged G xs }
 {}

@@ -45,7 +45,7 @@ fn print_labels<K: LabelKind + Copy>(rt: &HostRuntime, labels: &[K]) -> io::Resu
 }
 
 // Carries out the calls on a new monitor over the record, and prints their answers and the labels of the whole record.
-pub fn print_run<K: LabelKind + Copy, R: Growing + Drop>(
+pub(crate) fn print_run<K: LabelKind + Copy, R: Growing + Drop>(
     rt: &HostRuntime,
     table: Table,
     log: R,

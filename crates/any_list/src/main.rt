@@ -20,6 +20,7 @@ use strips::Strip;
 use table::finished::Table;
 
 fn print_runs(rt: &HostRuntime, table: Table) -> io::Result<()> {
+    // Room for the four states that are accepted, and more: a record may be longer than its log.
     let mut rows = [BLANK; 8];
     println!(rt; "record=table labels=dated")?;
     print_run::<Dated, _>(rt, table, TableRecord::new(&mut rows))?;

@@ -2,7 +2,7 @@
 use Rattle.std.proofs.Common.{◌≡◌, ℕ, zero, suc, ◌+◌, ◌-◌, ◌<◌, ◌≤◌, min, Bool, true, false, cond, not, ◌&&◌, eqb, ltb, ◌⊎◌, ◌↔◌, ℤ, pos, Decides, sym, refl, ap, ◌∙◌, subst, inl, inr, arith}
 use mathlib.Core.Logic.Iff
 use Rattle.std.specs.Int.{int_min}
-use Rattle.std.proofs.lemmas.Int.{ints, by_lt_z}
+use Rattle.std.proofs.lemmas.Int.{ints}
 use Rattle.std.proofs.lemmas.Bool.{cases_lt, cases_eq, cases_Bool, both_ways, ltb-true, ltb-false, lt-ltb, eqb-true, eq-eqb, and_parts, and_from, or_cases, or_left, or_right, false≢true}
 use Rattle.logic.specs.declared.types.State.{State}
 use Rattle.logic.specs.States.{Trace}
@@ -12,10 +12,10 @@ use Rattle.logic.proofs.Uniques.{UniqueTo, unique}
 use Rattle.labels.specs.Dated.{dated}
 use Rattle.dating.specs.Dated.{true_from, false_from, seen}
 use Rattle.dating.specs.Labels.{shows, carries, is_kind, refers, until_from, since_to, at_nominal, label}
-use Rattle.dating.specs.Laws.{LabelsRead}
+use Rattle.dating.specs.Laws.{HasDate, LabelsRead}
 use Rattle.dating.proofs.Says.{Says, dated_says, says_min, says_max, says_neg, says_true, says_unknown, says_seen, says_when, says_test, kept_iff, kept, kept_or, sum_iff, settled_before, settled_not, settled_and, settled_or}
 use Rattle.dating.proofs.Steps.{weak_past, kept_state, settled, until_step, since_step, since_first}
-use Rattle.dating.proofs.Ranged.{Ranged, ranged}
+use Rattle.dating.proofs.Ranged.{labels_have_dates_lem}
 
 -- ── The tests of a state ──
 shows_is : (q : State) (b : ℕ) → (shows q b ≡ true) ↔ Shows q b
@@ -195,14 +195,15 @@ module _ (s : Trace) (n c : ℕ) (small : n ≤ 256) (one : UniqueTo n s) (le : 
       (Iff.trans (kept_or r c i (((0 < k) × ((s i).first.kind ≡ k)) × Reads r s c (s i).first.target i f) (((0 < k) × ((s i).second.kind ≡ k)) × Reads r s c (s i).second.target i f))
       (kept_iff r c i (some_is (s i) k (λ t. Reads r s c t i f)))))
 
--- after the last state, a number that is ranged says what it says there
-says_after : (r : Bool) (n i c : ℕ) (z : ℤ) → n < c → c ≤ 256 → Ranged n i z → Says r c z ↔ Says r n z
+-- after the last date that it may have, a number says what it says there
+pub says_after : (n i : ℕ) (z : ℤ) → n ≤ 256 → HasDate n i z → (r : Bool) (c : ℕ) → n ≤ c → c ≤ 256 → Says r c z ↔ Says r n z
 unfolding true_from false_from
-says_after true n i c z far top h = (
-  λ k. by_lt_z (false_from n) z (λ m. m) (λ m. absurd (omega (arith, ints, h.3 (omega (arith, ints))))),
-  λ k. by_lt_z z (pos 0) (λ m. absurd (omega (arith, ints, h.3 m))) (λ m. omega (arith, ints)),
-)
-says_after false n i c z far top h = (λ k. h.2 (omega (arith, ints)), λ k. omega (arith, ints))
+says_after n i z small (inl e) true c far top = (λ y. omega (arith, ints), λ y. omega (arith, ints))
+says_after n i z small (inl e) false c far top = (λ y. omega (arith, ints), λ y. omega (arith, ints))
+says_after n i z small (inr (d, p, q, inl e)) true c far top = (λ y. omega (arith, ints), λ y. omega (arith, ints))
+says_after n i z small (inr (d, p, q, inl e)) false c far top = (λ y. omega (arith, ints), λ y. omega (arith, ints))
+says_after n i z small (inr (d, p, q, inr e)) true c far top = (λ y. omega (arith, ints), λ y. omega (arith, ints))
+says_after n i z small (inr (d, p, q, inr e)) false c far top = (λ y. omega (arith, ints), λ y. omega (arith, ints))
 
 -- the theorem, from nominals of their own alone
 pub label_reads : (s : Trace) (n v i : ℕ) (f : Tree) → n ≤ 256 → UniqueTo n s → 1 ≤ i → i ≤ n →
@@ -213,7 +214,7 @@ label_reads s n v i f small one a b r c top =
           let e : min c n ≡ n = omega arith in
           subst (λ (k : ℕ). Decides (dated (label s n v i f) r c) (Reads r s k v i f)) (sym e)
           (Iff.trans (dated_says r c (label s n v i f))
-          (Iff.trans (says_after r n i c (label s n v i f) far top (ranged s n small v i f a b)) (reading s n n small one (omega arith) v i f a b r)))
+          (Iff.trans (says_after n i (label s n v i f) small (labels_have_dates_lem s n v i f small a b) r c (omega (arith, far)) top) (reading s n n small one (omega arith) v i f a b r)))
       | inr near ↦
           let e : min c n ≡ c = omega arith in
           subst (λ (k : ℕ). Decides (dated (label s n v i f) r c) (Reads r s k v i f)) (sym e)

@@ -5,11 +5,11 @@
 ghost use Rattle.dating.specs.Laws.{LabelsRead, LabelsHaveDates};
 
 // A formula's label gives both readings at every truncation point from 1 to 256.
-pub fn labels_read()
+pub(crate) fn labels_read()
     ensures { LabelsRead }
 {}
 
 // A label of state i is unknown, or dated from i to the last state.
-pub fn labels_have_dates()
+pub(crate) fn labels_have_dates()
     ensures { LabelsHaveDates }
 {}

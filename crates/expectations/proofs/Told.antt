@@ -4,11 +4,12 @@ use Rattle.std.specs.List.{AllByRecursion as All, slice_get}
 use Rattle.std.proofs.ByRecursion.{All-append, All-weaker}
 use Rattle.std.proofs.lemmas.Bool.{false≢true, eq-eqb, eqb-true, and_parts, and_from, cases_eq}
 use Rattle.logic.specs.declared.types.Rule.{Rule}
+use Rattle.logic.specs.Tables.{no_rule}
 use Rattle.expectations.specs.declared.types.Label.{Label}
 use Rattle.expectations.specs.declared.types.Event.{Event}
 use Rattle.expectations.specs.declared.types.Event.TheVariants.{Raising, Fulfilling, Violating}
 use Rattle.expectations.specs.declared.types.Notice.{Notice}
-use Rattle.expectations.specs.Expectations.{Labels, no_rule, true_from, raises, only_if, notice, of_state, from_state, from_rule, notices}
+use Rattle.expectations.specs.Expectations.{Labels, true_from, raises, only_if, notice, of_state, from_state, from_rule, notices}
 use Rattle.expectations.specs.Laws.{NotBefore, InOrder, Raises, DatedAt, Happens}
 use Rattle.expectations.proofs.Labels.{true_is, false_is, is_true, is_false}
 use Rattle.expectations.proofs.Places.{all_nth, Stands, stands_left, stands_right}

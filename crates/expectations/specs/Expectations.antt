@@ -36,10 +36,6 @@ false_from (FalseFrom d) c = d == c
 
 -- ── Standings ──
 
--- where a list of rules ends
-abbrev pub no_rule : Rule
-no_rule = record { condition = 0; content = 0 }
-
 -- a rule raises an expectation at state s exactly if its condition there is true from s on
 abbrev pub raises : Labels → Rule → (s : ℕ) → Bool
 raises labels r s = true_from (labels r.condition s) s

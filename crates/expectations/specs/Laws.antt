@@ -2,6 +2,7 @@
 use Rattle.std.specs.Prelude.{◌≡◌, ℕ, suc, ◌+◌, ◌<◌, ◌≤◌, ◌⊎◌, List, length, get_or, Some, ◌≢◌, slice_index_or}
 use Rattle.std.specs.List.{slice_get}
 use Rattle.logic.specs.declared.types.Rule.{Rule}
+use Rattle.logic.specs.Tables.{no_rule}
 use Rattle.expectations.specs.declared.types.Label.{Label}
 use Rattle.expectations.specs.declared.types.Label.TheVariants.{Unknown, TrueFrom, FalseFrom}
 use Rattle.expectations.specs.declared.types.Verdict.{Verdict}
@@ -11,7 +12,7 @@ use Rattle.expectations.specs.declared.types.Standing.TheVariants.{NotRaised, Pe
 use Rattle.expectations.specs.declared.types.Event.{Event}
 use Rattle.expectations.specs.declared.types.Event.TheVariants.{Raising, Fulfilling, Violating}
 use Rattle.expectations.specs.declared.types.Notice.{Notice}
-use Rattle.expectations.specs.Expectations.{Labels, verdict, no_rule, standing, tallied, notices}
+use Rattle.expectations.specs.Expectations.{Labels, verdict, standing, tallied, notices}
 use Rattle.expectations.specs.Words.{of_verdict, of_standing, of_event}
 
 -- ── What labels are like ──

@@ -2,51 +2,51 @@
 ghost use Rattle.expectations.specs.Laws.{StandingsMean, DecisionsLast, TalliesSum, HappensOnce, HasOneDate, NoticesInOrder, VerdictsStay, StandingsStay, NoticesStay, AnswersDiffer};
 
 // A standing is exactly what is so.
-pub fn standings_mean()
+pub(crate) fn standings_mean()
     ensures { StandingsMean }
 {}
 
 // What is decided at a point is decided so at every later one.
-pub fn decisions_last()
+pub(crate) fn decisions_last()
     ensures { DecisionsLast }
 {}
 
 // A rule has raised as many expectations as are pending, fulfilled and violated.
-pub fn tallies_sum()
+pub(crate) fn tallies_sum()
     ensures { TalliesSum }
 {}
 
 // What happens at a point stands once among its notices, and nothing else stands there.
-pub fn notices_happen_once()
+pub(crate) fn notices_happen_once()
     ensures { HappensOnce }
 {}
 
 // Nothing happens at two points.
-pub fn notices_have_one_date()
+pub(crate) fn notices_have_one_date()
     ensures { HasOneDate }
 {}
 
 // Notices stand by rule, then by raising state, a raising before its own decision.
-pub fn notices_are_in_order()
+pub(crate) fn notices_are_in_order()
     ensures { NoticesInOrder }
 {}
 
 // Labels read the same at earlier points when a state is added.
-pub fn verdicts_stay()
+pub(crate) fn verdicts_stay()
     ensures { VerdictsStay }
 {}
 
 // Standings at earlier points stay when a state is added.
-pub fn standings_stay()
+pub(crate) fn standings_stay()
     ensures { StandingsStay }
 {}
 
 // Notices of earlier points stay when a state is added.
-pub fn notices_stay()
+pub(crate) fn notices_stay()
     ensures { NoticesStay }
 {}
 
 // Two answers that tell the same are the same.
-pub fn answers_differ()
+pub(crate) fn answers_differ()
     ensures { AnswersDiffer }
 {}

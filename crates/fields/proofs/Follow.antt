@@ -11,8 +11,8 @@ module _ {A : Type 0} (Line : ℕ → A → List ℕ → List ℕ → Type 0) wh
       (u, here, run_more (k + 1) ys x m u middle rest (omega arith) later l)
 
   -- a line is read in one way only
-  abbrev pub Single : Type 0
-  Single = (k : ℕ) (x y : A) (text r s : List ℕ) → Line k x text r → Line k y text s → (x ≡ y) × (r ≡ s)
+  abbrev pub OneWay : Type 0
+  OneWay = (k : ℕ) (x y : A) (text r s : List ℕ) → Line k x text r → Line k y text s → (x ≡ y) × (r ≡ s)
 
   -- the first run ends where the second has another line
   pub record Shorter (k : ℕ) (xs ys : List A) (rest : List ℕ) : Type 0 where
@@ -32,7 +32,7 @@ module _ {A : Type 0} (Line : ℕ → A → List ℕ → List ℕ → Type 0) wh
       record { fewer = omega arith; next = y; after = u; line = subst (λ m. Line m y rest u) z (subst (λ t. Line k y t u) e l) }
 
   -- two runs over one text are the same, or one of them is shorter
-  pub compared : Single → (k : ℕ) (xs ys : List A) (text r s : List ℕ) → Run Line k xs text r → Run Line k ys text s
+  pub compared : OneWay → (k : ℕ) (xs ys : List A) (text r s : List ℕ) → Run Line k xs text r → Run Line k ys text s
       → ((xs ≡ ys) × (r ≡ s)) ⊎ (Shorter k xs ys r ⊎ Shorter k ys xs s)
   compared one k [] [] text r s p q = inl (refl, sym p ∙ q)
   compared one k [] (y ∷ ys) text r s p (u, l, q) = inr (inl (none_yet k y ys text r u p l))

@@ -9,7 +9,7 @@ use keys::LineKey;
 use words::Operator;
 
 // The fields of a line that are not read yet: those from a place on. A place beside the line, and not the rest alone: a
-// `Field` tells its place in the line, which is a form of the project.
+// `Field` (parts.rt) is a piece of the line with its place in it, and reading goes on where that piece ends.
 #[derive(Drop, Clone, Copy, PartialEq, Eq, Debug)]
 pub struct Fields<'a> {
     line: &'a [u8],

@@ -10,6 +10,7 @@ use Rattle.labels.proofs.Dates.{number_by_meaning}
 use Rattle.dating.specs.Dated.{true_from, false_from}
 use Rattle.dating.specs.Laws.{HasDate}
 use Rattle.dating.proofs.Says.{Says, dated_says, says_unknown}
+use Rattle.dating.proofs.Reading.{says_after}
 use Rattle.expectations.specs.declared.types.Label.TheVariants.{TrueFrom, FalseFrom}
 use Rattle.expectations.specs.declared.types.Verdict.{Verdict}
 use Rattle.expectations.specs.declared.types.Verdict.TheVariants as is
@@ -102,16 +103,7 @@ right_by answer Weak Strong w s = record {
 
 -- ── Numbers that are dated up to point n ──
 
--- after n they say what they say there
-says_after : (n i : ℕ) (z : ℤ) → n ≤ 256 → HasDate n i z → (r : Bool) (c : ℕ) → n ≤ c → c ≤ 256 → Says r c z ↔ Says r n z
-unfolding true_from false_from
-says_after n i z small (inl e) true c far top = (λ y. omega (arith, ints), λ y. omega (arith, ints))
-says_after n i z small (inl e) false c far top = (λ y. omega (arith, ints), λ y. omega (arith, ints))
-says_after n i z small (inr (d, p, q, inl e)) true c far top = (λ y. omega (arith, ints), λ y. omega (arith, ints))
-says_after n i z small (inr (d, p, q, inl e)) false c far top = (λ y. omega (arith, ints), λ y. omega (arith, ints))
-says_after n i z small (inr (d, p, q, inr e)) true c far top = (λ y. omega (arith, ints), λ y. omega (arith, ints))
-says_after n i z small (inr (d, p, q, inr e)) false c far top = (λ y. omega (arith, ints), λ y. omega (arith, ints))
-
+-- after n they read what they read there
 reads_after : (n i : ℕ) (z : ℤ) → n ≤ 256 → HasDate n i z → (r : Bool) (c : ℕ) → n ≤ c → c ≤ 256 → dated z r c ≡ dated z r n
 reads_after n i z small h r c far top =
     same_from_decides (dated z r c) (dated z r n) (Iff.trans (dated_says r c z) (says_after n i z small h r c far top)) (dated_says r n z)

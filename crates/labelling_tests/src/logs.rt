@@ -9,7 +9,7 @@ use std::test::Fail;
 use table::finished::Table;
 
 // The table of these formulas, with a rule of the last one.
-pub fn table_of(formulas: &[Formula]) -> Result<Table, Fail> {
+pub(crate) fn table_of(formulas: &[Formula]) -> Result<Table, Fail> {
     let last = formulas.len().saturating_sub(1);
     let rule = Rule {
         condition: last,
@@ -19,7 +19,7 @@ pub fn table_of(formulas: &[Formula]) -> Result<Table, Fail> {
 }
 
 // The last formula is labelled so at the states, in dated numbers. Arrays, as a caller without a heap has them.
-pub fn has_labels(
+pub(crate) fn has_labels(
     rt: &impl Abort,
     formulas: &[Formula],
     log: &[State],
@@ -38,7 +38,7 @@ pub fn has_labels(
 }
 
 // The cells hold labels with these numbers.
-pub fn has_values(rt: &impl Abort, cells: &[Dated], expected: &[i16]) {
+pub(crate) fn has_values(rt: &impl Abort, cells: &[Dated], expected: &[i16]) {
     assert!(rt; cells.len() == expected.len());
     for (cell, value) in cells.iter().zip(expected) {
         assert_eq!(rt; cell.value(), *value);

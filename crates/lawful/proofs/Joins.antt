@@ -42,7 +42,7 @@ taken_joined xs x b d =
       )),
     )
 
-pub misled_joined : (xs : List State) (x : State) (i : ℕ) → i ≡ length xs + 1 → (b : Bool) → Decides b (Unfit x.first i ⊎ Unfit x.second i) → Decides b (ReferenceUnfit (joined xs x) i)
-misled_joined xs x i is b d =
+pub unfit_joined : (xs : List State) (x : State) (i : ℕ) → i ≡ length xs + 1 → (b : Bool) → Decides b (Unfit x.first i ⊎ Unfit x.second i) → Decides b (ReferenceUnfit (joined xs x) i)
+unfit_joined xs x i is b d =
     let new : joined xs x i ≡ x = ap (joined xs x) is ∙ joined_new xs x in
     subst (λ (q : State). Decides b (Unfit q.first i ⊎ Unfit q.second i)) (sym new) d

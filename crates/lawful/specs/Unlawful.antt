@@ -5,6 +5,7 @@ use Rattle.logic.specs.States.{Trace, state_at}
 use Rattle.logic.specs.Lawful.{NominalTaken, ReferenceUnfit, Fit}
 use Rattle.refusals.specs.declared.Refusal.{Refusal}
 use Rattle.refusals.specs.declared.Refusal.TheVariants as refusal
+use Rattle.refusals.specs.Numbers.{told}
 
 -- the refusal that a state gets: a nominal that is taken goes before an unfit reference
 abbrev pub Unlawful : Trace → Refusal → Type 0
@@ -19,22 +20,10 @@ Unlawful s refusal.LooseFormula = ⊥
 Unlawful s refusal.NoSuchState = ⊥
 Unlawful s refusal.NoSuchPoint = ⊥
 
-abbrev pub placed : Refusal → ℕ
-placed (refusal.NominalTaken i) = i
-placed (refusal.ReferenceUnfit i) = i
-placed refusal.ForeignRecord = 0
-placed refusal.TooManyStates = 0
-placed refusal.RecordFull = 0
-placed refusal.MemoryTooShort = 0
-placed refusal.NoSuchName = 0
-placed refusal.LooseFormula = 0
-placed refusal.NoSuchState = 0
-placed refusal.NoSuchPoint = 0
-
 -- the refusal of the record's first state that is not lawful
 abbrev pub FirstUnlawful : List State → Refusal → Type 0
 FirstUnlawful xs why =
-    (1 ≤ placed why) × (placed why ≤ length xs) × Unlawful (state_at xs) why × ((j : ℕ) → 1 ≤ j → j < placed why → Fit (state_at xs) j)
+    (1 ≤ (told why).place) × ((told why).place ≤ length xs) × Unlawful (state_at xs) why × ((j : ℕ) → 1 ≤ j → j < (told why).place → Fit (state_at xs) j)
 
 -- the trace of a record with one state more
 abbrev pub joined : List State → State → Trace

@@ -1,10 +1,15 @@
 -- Records of states, and the traces that they begin. States are numbered from 1.
 use Rattle.std.specs.Prelude.{◌≡◌, ℕ, zero, suc, ◌≤◌, List, [], ◌∷◌, ◌++◌, length, slice_index_or}
+use Rattle.logic.specs.declared.types.Reference.{Reference}
 use Rattle.logic.specs.declared.types.State.{State}
+
+-- what a state has in the place of a reference that it does not have
+abbrev pub no_reference : Reference
+no_reference = record { kind = 0; target = 0 }
 
 -- the state in which every number is 0: what a record answers for a state that it does not hold
 abbrev pub blank : State
-blank = record { signals = 0; nominal = 0; first = record { kind = 0; target = 0 }; second = record { kind = 0; target = 0 } }
+blank = record { signals = 0; nominal = 0; first = no_reference; second = no_reference }
 
 -- an endless trace: a state for each number from 1 on
 abbrev pub Trace : Type 0

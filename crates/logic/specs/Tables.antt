@@ -3,6 +3,11 @@ use Rattle.std.specs.Prelude.{◌≡◌, ℕ, zero, suc, ◌<◌, ◌≤◌, Boo
 use Rattle.logic.specs.Logic.{Tree, true', signal, nominal, not', and', or', next, previous, until, since, at', variable, reference, bind, some', is_loose}
 use Rattle.logic.specs.declared.types.Formula.{Formula}
 use Rattle.logic.specs.declared.types.Formula.TheVariants.{True, Signal, Nominal, Not, And, Or, Next, Previous, Until, Since, At, Variable, Reference, Bind, Some}
+use Rattle.logic.specs.declared.types.Rule.{Rule}
+
+-- what a list of rules reads as past its end
+abbrev pub no_rule : Rule
+no_rule = record { condition = 0; content = 0 }
 
 -- a formula's tree, where `part` gives those of its parts
 abbrev pub node : Formula → (part : ℕ → Tree) → Tree

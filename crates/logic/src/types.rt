@@ -6,6 +6,9 @@ pub const MOST_STATES: usize = 256;
 // How many signals a state has, numbered from 0.
 pub const SIGNALS: u8 = 32;
 
+// The last nominal; the first is 1.
+pub const MOST_NOMINAL: u8 = 255;
+
 // The last kind of a reference; the first is 1.
 pub const MOST_KIND: u8 = 15;
 

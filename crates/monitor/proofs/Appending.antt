@@ -4,13 +4,14 @@ use Rattle.std.proofs.lemmas.Bool.{eq-eqb, eqb-true, lt-leb, cond-true, cond-fal
 use Rattle.logic.specs.declared.types.State.{State}
 use Rattle.records.specs.Growth.{Appended}
 use Rattle.logic.specs.Lawful.{NominalTaken, ReferenceUnfit, LawfulRecord}
+use Rattle.logic.specs.Tests.{either_unfit}
 use Rattle.refusals.specs.declared.Refusal.{Refusal}
 use Rattle.refusals.specs.declared.Refusal.TheVariants as refusal
 use Rattle.lawful.specs.Unlawful.{joined, MayFollow, MayNotFollow}
 use Rattle.answers.specs.declared.types.Call.TheVariants.{Append}
-use Rattle.answers.specs.Tests.{taken, misled}
+use Rattle.answers.specs.Tests.{taken}
 use Rattle.answers.specs.Answers.{Ground, refusal_of, refused_by}
-use Rattle.answers.proofs.Tested.{taken_decides, misled_decides, fit_takes, takes_fit, takes_lawful}
+use Rattle.answers.proofs.Tested.{taken_decides, reference_decides, fit_takes, takes_fit, takes_lawful}
 
 module _ (own : ℕ) (G : Ground) (xs : List State) (x : State) (mine : own ≡ length xs) where
   own_refusal : refusal_of G xs (Append x) ≡ refused_by own G xs (Append x)
@@ -18,7 +19,7 @@ module _ (own : ℕ) (G : Ground) (xs : List State) (x : State) (mine : own ≡ 
 
   module _ (short : length xs < 256) (roomy : length xs < G.capacity) where
     -- past the first two reasons
-    later : (rest : Option Refusal) → cond (taken xs x) (Some (refusal.NominalTaken (length xs + 1))) (cond (misled x (length xs + 1)) (Some (refusal.ReferenceUnfit (length xs + 1))) None) ≡ rest
+    later : (rest : Option Refusal) → cond (taken xs x) (Some (refusal.NominalTaken (length xs + 1))) (cond (either_unfit x (length xs + 1)) (Some (refusal.ReferenceUnfit (length xs + 1))) None) ≡ rest
         → rest ≡ refused_by own G xs (Append x)
     later rest is =
         sym (cond-false _ _ _ (lt-leb 256 (length xs) short) ∙ cond-false _ _ _ (lt-leb G.capacity (length xs) roomy) ∙ is) ∙ own_refusal
@@ -32,7 +33,7 @@ module _ (own : ℕ) (G : Ground) (xs : List State) (x : State) (mine : own ≡ 
     refused_some (refusal.ReferenceUnfit i) h =
         later (Some (refusal.ReferenceUnfit i))
         (cond-false _ _ _ (free (subst (λ j. NominalTaken (joined xs x) j → ⊥) h.1 h.2))
-        ∙ cond-true _ _ _ ((misled_decides xs x).1 (subst (λ j. ReferenceUnfit (joined xs x) j) h.1 h.3))
+        ∙ cond-true _ _ _ ((reference_decides xs x).1 (subst (λ j. ReferenceUnfit (joined xs x) j) h.1 h.3))
         ∙ ap (λ j. Some (refusal.ReferenceUnfit j)) (sym h.1))
       where
         free : (NominalTaken (joined xs x) (length xs + 1) → ⊥) → taken xs x ≡ false
@@ -50,12 +51,13 @@ module _ (own : ℕ) (G : Ground) (xs : List State) (x : State) (mine : own ≡ 
     refused_next (Ok u) h = sym (sym (fit_takes G xs x h roomy) ∙ own_refusal)
     refused_next (Err why) h = sym (refused_some why h)
 
+-- a call that no refusal fits is over the monitor's own record, and not refused there
+pub none_only : (b : Bool) (o : Option Refusal) → cond b o (Some refusal.ForeignRecord) ≡ None → (b ≡ true) × (o ≡ None)
+none_only true o h = (refl, h)
+none_only false o h = let z : ◌≡◌ {A = ℕ} 0 1 = cc in absurd (omega arith)
+
 -- an append that no refusal fits
 module _ (own : ℕ) (G : Ground) (xs : List State) (x : State) (free : refused_by own G xs (Append x) ≡ None) where
-  none_only : (b : Bool) (o : Option Refusal) → cond b o (Some refusal.ForeignRecord) ≡ None → (b ≡ true) × (o ≡ None)
-  none_only true o h = (refl, h)
-  none_only false o h = let z : ◌≡◌ {A = ℕ} 0 1 = cc in absurd (omega arith)
-
   pub own_count : own ≡ length xs
   own_count = eqb-true own (length xs) (none_only (eqb own (length xs)) (refusal_of G xs (Append x)) free).0
 

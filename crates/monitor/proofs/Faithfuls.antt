@@ -1,9 +1,9 @@
 -- A memory that is right of its states tells what their labels do. Assumes nothing.
 use Rattle.std.proofs.Common.{◌≡◌, ℕ, ◌<◌, ◌≤◌, false, List, length, get_or, ap, ◌∙◌, arith}
 use Rattle.logic.specs.declared.types.State.{State}
-use Rattle.logic.specs.Tables.{loose}
+use Rattle.logic.specs.Tables.{no_rule, loose}
 use Rattle.table.specs.Tables.{InOrder}
-use Rattle.expectations.specs.Expectations.{no_rule, no_tally, tallied, notices}
+use Rattle.expectations.specs.Expectations.{no_tally, tallied, notices}
 use Rattle.growth.specs.Growth.{labels_of}
 use Rattle.monitor.specs.declared.book.Book.{Book}
 use Rattle.monitor.specs.Book.{table_of, rules_in, held, Right}

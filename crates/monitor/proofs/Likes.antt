@@ -1,8 +1,9 @@
 -- Labels that agree where the rules read them give the same standings, tallies and notices. Assumes nothing.
 use Rattle.std.proofs.Common.{◌≡◌, ℕ, zero, suc, ◌+◌, ◌<◌, ◌≤◌, Bool, cond, List, [], ◌∷◌, ◌++◌, length, get_or, refl, ap, ap₂, arith}
 use Rattle.logic.specs.declared.types.Rule.{Rule}
+use Rattle.logic.specs.Tables.{no_rule}
 use Rattle.expectations.specs.declared.types.Tally.{Tally}
-use Rattle.expectations.specs.Expectations.{Labels, no_rule, raises, true_from, standing, count, tallied, is_raised, is_pending, is_fulfilled, is_violated, of_state, from_state, from_rule}
+use Rattle.expectations.specs.Expectations.{Labels, raises, true_from, standing, count, tallied, is_raised, is_pending, is_fulfilled, is_violated, of_state, from_state, from_rule}
 
 count_like : (p q : ℕ → Bool) (n : ℕ) → ((s : ℕ) → 1 ≤ s → s ≤ n → p s ≡ q s) → count p n ≡ count q n
 count_like p q zero h = refl

@@ -5,12 +5,12 @@ use Rattle.logic.specs.declared.types.Formula.{Formula}
 use Rattle.logic.specs.declared.types.Rule.{Rule}
 use Rattle.logic.specs.declared.types.State.{State}
 use Rattle.logic.specs.Lawful.{LawfulRecord}
-use Rattle.logic.specs.Tables.{tree, loose}
+use Rattle.logic.specs.Tables.{no_rule, tree, loose}
 use Rattle.labels.specs.declared.dated.Dated.{Dated}
 use Rattle.table.specs.Tables.{formulas_of, rules_of}
 use Rattle.expectations.specs.declared.types.Label.{Label}
 use Rattle.expectations.specs.declared.types.Label.TheVariants.{Unknown}
-use Rattle.expectations.specs.Expectations.{Labels, no_rule, no_tally, tallied}
+use Rattle.expectations.specs.Expectations.{Labels, no_tally, tallied}
 use Rattle.growth.specs.Growth.{label_of_number, labels_of}
 use Rattle.answers.specs.Answers.{Ground}
 use Rattle.monitor.specs.declared.book.Book.{Book}

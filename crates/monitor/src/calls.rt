@@ -1,8 +1,8 @@
 // The calls of a monitor.
 ghost use Rattle.std.specs.Prelude.{◌≡◌, ℕ, ◌+◌, ◌<◌, ◌≤◌, true, false, ◌⊎◌, [], ◌∷◌, ◌++◌, length, is_ok, Some, None, MatchResult, ◌≢◌, slice_index_or};
 ghost use Rattle.std.specs.List.{slice_get};
-ghost use Rattle.logic.specs.Tables.{loose as is_loose};
-ghost use Rattle.expectations.specs.Expectations.{verdict, standing as standing_of, tallied, notices, no_rule};
+ghost use Rattle.logic.specs.Tables.{no_rule, loose as is_loose};
+ghost use Rattle.expectations.specs.Expectations.{verdict, standing as standing_of, tallied, notices};
 ghost use Rattle.refusals.specs.declared.Refusal.TheVariants.{ForeignRecord, NoSuchName, LooseFormula};
 ghost use Rattle.answers.specs.declared.types.Call.TheVariants.{Append, LabelAt, StandingAt, TallyOf, NoticeOf};
 ghost use Rattle.answers.specs.Answers.{refused_by, outcome};
@@ -72,13 +72,6 @@ impl<R: Growing> Monitor<R> {
             book: Book::new(table),
             log,
         }
-    }
-
-    // The record that the monitor has taken over.
-    pub fn record(&self) -> &R
-        ensures { result.now ≡ self.now.log }
-    {
-        &self.log
     }
 
     // How many states there are, if the record's count is the monitor's.

@@ -2,7 +2,8 @@
 ghost use Rattle.std.specs.Prelude.{◌≡◌, ℕ, ◌+◌, ◌-◌, ◌*◌, ◌^◌, ◌<◌, ◌≤◌, List, [], ◌∷◌, ◌++◌, length, slice_index_or};
 ghost use Rattle.std.specs.List.{slice_get, flat_map};
 ghost use Rattle.std.specs.Option.{option_to_list};
-ghost use Rattle.expectations.specs.Expectations.{raises, standing as standing_of, tallied, added, of_state, notices, no_rule};
+ghost use Rattle.logic.specs.Tables.{no_rule};
+ghost use Rattle.expectations.specs.Expectations.{raises, standing as standing_of, tallied, added, of_state, notices};
 ghost use Rattle.monitor.specs.Book.{held, rules_in, SameButTallies, TalliesRight};
 
 use crate::book::Book;
@@ -11,7 +12,7 @@ use expectations::types::{Event, Label, Notice, Standing, Tally};
 use growth::label_told;
 use logic::types::Rule;
 
-// Counts one more standing.
+// Counts one more standing. A tally counts at most 256; any bound below the last `usize` serves, so that no count wraps.
 fn count_one(t: &mut Tally, standing: Standing)
     requires { (t.old.raised < 2 ^ 32) × ((t.old.pending < 2 ^ 32) × ((t.old.fulfilled < 2 ^ 32) × (t.old.violated < 2 ^ 32))) }
     ensures { t.new ≡ added standing t.old }
@@ -100,7 +101,8 @@ impl Expectation<'_> {
 }
 
 impl Book {
-    // The label of formula f at state i.
+    // The label of formula f at state i. A formula's number is below 64 and a state's at most 256; any such bounds serve, so
+    // that the number of the cell does not wrap.
     pub(crate) fn label(&self, f: usize, i: usize) -> Label
         requires { (f < 2 ^ 16) × ((1 ≤ i) × (i < 2 ^ 16)) }
         ensures { result ≡ held self.now f i }
@@ -141,7 +143,8 @@ impl Book {
         }
     }
 
-    // The k-th notice of a point: by rule, then by raising state, a raising before its own decision.
+    // The k-th notice of a point: by rule, then by raising state, a raising before its own decision. A point is at most 256;
+    // any bound below that of `label` serves.
     pub(crate) fn notice(&self, point: usize, k: usize) -> Option<Notice>
         requires { point < 2 ^ 15 }
         ensures { result ≡ slice_get (notices (held self.now) (rules_in self.now) point) k }

@@ -87,7 +87,7 @@ fn never_raises<R: Growing + Drop>(rt: &impl Abort, log: R) -> Result<(), Fail> 
 
 // Of the states up to the last, both formulas that speak of nominal 1 are decided from a point on and unknown before.
 fn decided_from<R: Growing>(rt: &impl Abort, monitor: &Monitor<R>, date: usize) {
-    let last = monitor.record().count();
+    let last = monitor.count();
     assert!(rt; last < 10);
     for state in 1..=last {
         for point in state..=last {

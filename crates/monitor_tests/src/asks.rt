@@ -4,12 +4,13 @@ use expectations::types::{Event, Notice, Tally};
 use logic::types::State;
 use monitor::live::Monitor;
 use records::growing::Growing;
+use records::readable::Readable;
 use sample_states::told;
 use std::process::Abort;
 use std::test::Fail;
 
 // A new monitor over a record, with these states appended.
-pub fn watched<R: Growing + Drop>(
+pub(crate) fn watched<R: Growing + Drop>(
     rt: &impl Abort,
     log: R,
     states: &[State],
@@ -22,26 +23,26 @@ pub fn watched<R: Growing + Drop>(
 }
 
 // The state is accepted, and its number is one more than the count of states before.
-pub fn accepts<R: Growing>(rt: &impl Abort, monitor: &mut Monitor<R>, state: State) {
-    let number = monitor.record().count().checked_add(1);
+pub(crate) fn accepts<R: Growing>(rt: &impl Abort, monitor: &mut Monitor<R>, state: State) {
+    let number = monitor.count().checked_add(1);
     assert_eq!(rt; monitor.append(state).ok(), number);
-    assert_eq!(rt; Some(monitor.record().count()), number);
+    assert_eq!(rt; Some(monitor.count()), number);
 }
 
 // The append is refused so, and the record has as many states as before.
-pub fn refuses<R: Growing>(
+pub(crate) fn refuses<R: Growing>(
     rt: &impl Abort,
     monitor: &mut Monitor<R>,
     state: State,
     expected: (u8, usize),
 ) {
-    let before = monitor.record().count();
+    let before = monitor.count();
     assert_eq!(rt; told(monitor.append(state)), Err(expected));
-    assert_eq!(rt; monitor.record().count(), before);
+    assert_eq!(rt; monitor.count(), before);
 }
 
 // The tally of a rule is raised, pending, fulfilled and violated so often.
-pub fn counts<R: Growing>(
+pub(crate) fn counts<R: Growing>(
     rt: &impl Abort,
     monitor: &Monitor<R>,
     rule: usize,
@@ -58,7 +59,7 @@ pub fn counts<R: Growing>(
 }
 
 // The notices of a point are these, each a rule, the raising state and what happened, and then there are none.
-pub fn notes<R: Growing>(
+pub(crate) fn notes<R: Growing>(
     rt: &impl Abort,
     monitor: &Monitor<R>,
     point: usize,
@@ -74,7 +75,11 @@ pub fn notes<R: Growing>(
 }
 
 // Each expectation of a rule is pending, fulfilled or violated.
-pub fn adds_up<R: Growing>(rt: &impl Abort, monitor: &Monitor<R>, rule: usize) -> Result<(), Fail> {
+pub(crate) fn adds_up<R: Growing>(
+    rt: &impl Abort,
+    monitor: &Monitor<R>,
+    rule: usize,
+) -> Result<(), Fail> {
     let tally = monitor.tally(rule).map_err(|_| Fail::new("refused"))?;
     assert!(rt; tally.pending <= 256 && tally.fulfilled <= 256 && tally.violated <= 256);
     assert_eq!(rt;
@@ -85,7 +90,7 @@ pub fn adds_up<R: Growing>(rt: &impl Abort, monitor: &Monitor<R>, rule: usize) -
 }
 
 // A formula or a rule, a state and a point, and the number with which a query of them is refused. By number, as `told` has it.
-pub type Ask = (usize, usize, usize, u8);
+pub(crate) type Ask = (usize, usize, usize, u8);
 
 // Each query is refused with its number, at place 0.
 fn all_refused<F: Fn(usize, usize, usize) -> Option<(u8, usize)>>(
@@ -100,13 +105,13 @@ fn all_refused<F: Fn(usize, usize, usize) -> Option<(u8, usize)>>(
     }
 }
 
-pub fn labels_refused<R: Growing>(rt: &impl Abort, monitor: &Monitor<R>, asks: &[Ask]) {
+pub(crate) fn labels_refused<R: Growing>(rt: &impl Abort, monitor: &Monitor<R>, asks: &[Ask]) {
     all_refused(rt, asks, |formula, state, point| {
         told(monitor.label(formula, state, point)).err()
     });
 }
 
-pub fn standings_refused<R: Growing>(rt: &impl Abort, monitor: &Monitor<R>, asks: &[Ask]) {
+pub(crate) fn standings_refused<R: Growing>(rt: &impl Abort, monitor: &Monitor<R>, asks: &[Ask]) {
     all_refused(rt, asks, |rule, state, point| {
         told(monitor.standing(rule, state, point)).err()
     });

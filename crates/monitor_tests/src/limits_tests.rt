@@ -22,7 +22,7 @@ fn stops<R: Growing + Drop>(
     for _ in 0..accepted {
         accepts(rt, &mut monitor, plain(1));
     }
-    assert_eq!(rt; monitor.record().count(), accepted);
+    assert_eq!(rt; monitor.count(), accepted);
     refuses(rt, &mut monitor, plain(1), (number, 0));
     refuses(rt, &mut monitor, referring(16, 0), (number, 0));
     if accepted > 0 {

@@ -129,7 +129,7 @@ fn refuses_foreign<R: Growing + Drop>(rt: &impl Abort, log: R) -> Result<(), Fai
         told(monitor.label_record(&mut labels, &mut work)),
         Err((6, 0))
     );
-    assert_eq!(rt; monitor.record().state(1).signals, 5);
+    assert_eq!(rt; monitor.state(1).signals, 5);
     Ok(())
 }
 

@@ -3,17 +3,17 @@ use logic::types::{Formula, Rule};
 use std::test::Fail;
 use table::finished::Table;
 
-pub const SIGNAL: usize = 0;
+pub(crate) const SIGNAL: usize = 0;
 
-pub const LOOSE: usize = 3;
+pub(crate) const LOOSE: usize = 3;
 
-pub const AT_ON: usize = 4;
+pub(crate) const AT_ON: usize = 4;
 
-pub const AT_OFF: usize = 5;
+pub(crate) const AT_OFF: usize = 5;
 
-pub const FORMULAS: usize = 7;
+pub(crate) const FORMULAS: usize = 7;
 
-pub const RULES: usize = 3;
+pub(crate) const RULES: usize = 3;
 
 // Where the state with nominal 1 shows signal 0 and not signal 1, `AT_ON` comes true and `AT_OFF` false.
 const LIST: [Formula; 7] = [
@@ -42,6 +42,6 @@ const LIST_OF_RULES: [Rule; RULES] = [
     },
 ];
 
-pub fn table() -> Result<Table, Fail> {
+pub(crate) fn table() -> Result<Table, Fail> {
     Table::of(&LIST, &LIST_OF_RULES).map_err(|_| Fail::new("no table"))
 }

@@ -1,5 +1,5 @@
 -- When a label is asked for: the refusal is the same at every point that may be asked for. Assumes nothing.
-use Rattle.std.proofs.Common.{◌≡◌, ℕ, ◌<◌, ◌≤◌, Bool, true, false, cond, eqb, leb, List, length, Some, None, Err, Option, sym, refl, ap, ◌∙◌, arith}
+use Rattle.std.proofs.Common.{◌≡◌, ℕ, ◌<◌, ◌≤◌, cond, eqb, leb, List, length, Some, None, Err, Option, sym, ap, ◌∙◌, arith}
 use Rattle.std.proofs.lemmas.Bool.{eqb-true}
 use Rattle.logic.specs.declared.types.State.{State}
 use Rattle.refusals.specs.declared.Refusal.{Refusal}
@@ -7,6 +7,7 @@ use Rattle.refusals.specs.declared.Refusal.TheVariants as refusal
 use Rattle.answers.specs.declared.types.Call.TheVariants.{LabelAt}
 use Rattle.answers.specs.Answers.{Ground, outside, or_else, refusal_of, refused_by, outcome}
 use Rattle.answers.proofs.Refusing.{no_reason, within, inside, outcome_err}
+use Rattle.monitor.proofs.Appending.{none_only}
 
 -- at a point before the last, as at the last
 pub same_refusal : (own : ℕ) (G : Ground) (xs : List State) (f i c : ℕ) → i ≤ c → c < length xs
@@ -20,14 +21,10 @@ same_refusal own G xs f i c low high =
 pub same_err : {A B : Type 0} (o : Option Refusal) (v : A) (w : B) (why : Refusal) → Err why ≡ outcome o v → Err why ≡ outcome o w
 same_err o v w why e = sym (ap (λ (r : Option Refusal). outcome r w) (outcome_err o v why e))
 
-own_record : (b : Bool) (o : Option Refusal) → cond b o (Some refusal.ForeignRecord) ≡ None → (b ≡ true) × (o ≡ None)
-own_record true o e = (refl, e)
-own_record false o e = let z : ◌≡◌ {A = ℕ} 0 1 = cc in absurd (omega arith)
-
 -- a label that is given is that of a state of the monitor's own record
 pub given : (own : ℕ) (G : Ground) (xs : List State) (f i c : ℕ) → refused_by own G xs (LabelAt f i c) ≡ None → (own ≡ length xs) × (1 ≤ i) × (i ≤ length xs)
 given own G xs f i c e =
-    let o = own_record (eqb own (length xs)) (refusal_of G xs (LabelAt f i c)) e in
+    let o = none_only (eqb own (length xs)) (refusal_of G xs (LabelAt f i c)) e in
     let named = no_reason (leb G.formulas f) refusal.NoSuchName _ o.1 in
     let closed = no_reason (G.loose f) refusal.LooseFormula _ named.1 in
     let state = no_reason (outside i 1 (length xs)) refusal.NoSuchState _ closed.1 in

@@ -6,13 +6,13 @@ use Rattle.expectations.specs.declared.types.Label.TheVariants.{Unknown, TrueFro
 use Rattle.published.specs.declared.rows.Row.{Row}
 
 -- a label of state i that is decided from d on was open before, if d is after i
-abbrev pub open_before_lem : (i d : ℕ) → List ℕ
-open_before_lem i d = cond (nat_lt i d) (codes "open, ") []
+abbrev pub words_before : (i d : ℕ) → List ℕ
+words_before i d = cond (nat_lt i d) (codes "open, ") []
 
 abbrev pub label_text : (i : ℕ) → Label → List ℕ
 label_text i Unknown = codes "open"
-label_text i (TrueFrom d) = open_before_lem i d ++ field (codes "true from ") d []
-label_text i (FalseFrom d) = open_before_lem i d ++ field (codes "false from ") d []
+label_text i (TrueFrom d) = words_before i d ++ field (codes "true from ") d []
+label_text i (FalseFrom d) = words_before i d ++ field (codes "false from ") d []
 
 abbrev pub row_text : Row → List ℕ
 row_text x =

@@ -1,6 +1,6 @@
 // One label of a log, as text.
 ghost use Rattle.std.specs.Prelude.{◌≡◌, Some};
-ghost use Rattle.published.specs.Rows.{open_before_lem, row_text};
+ghost use Rattle.published.specs.Rows.{words_before, row_text};
 
 use expectations::types::Label;
 use std::fmt;
@@ -16,7 +16,7 @@ pub struct Row {
 
 // What stands before the date of a decision: whether the label was unknown until then.
 fn open_before(state: usize, date: usize) -> &'static str
-    ensures { result.now ≡ open_before_lem state date }
+    ensures { result.now ≡ words_before state date }
 {
     if state < date { "open, " } else { "" }
 }

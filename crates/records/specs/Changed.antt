@@ -5,8 +5,8 @@ use Rattle.records.specs.declared.change.Change.{Change}
 use Rattle.records.specs.declared.change_record.ChangeRecord.{ChangeRecord}
 
 -- the signals after a list of changes, from those before it: each change turns the signals that differ
-abbrev pub signals_after_lem : (before : ℕ) → List Change → ℕ
-signals_after_lem before cs = fold (λ s c. bit_xor s c.differing) before cs
+abbrev pub signals_shown_after : (before : ℕ) → List Change → ℕ
+signals_shown_after before cs = fold (λ s c. bit_xor s c.differing) before cs
 
 -- the state that a change makes, from the signals before it
 abbrev pub changed : (before : ℕ) → Change → State

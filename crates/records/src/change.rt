@@ -1,7 +1,7 @@
 // What a state changes, and the states that a list of changes makes.
 ghost use Rattle.std.specs.Prelude.{◌≡◌, [], ◌∷◌, ◌++◌};
 ghost use Rattle.logic.specs.States.{state_at};
-ghost use Rattle.records.specs.Changed.{signals_after_lem, replayed};
+ghost use Rattle.records.specs.Changed.{signals_shown_after, replayed};
 
 use crate::readable::BLANK;
 use logic::types::{Reference, State};
@@ -46,7 +46,7 @@ pub(crate) fn change_to(state: State, before: &[Change]) -> Change
 
 // The signals that are on after the changes, before which all are off.
 fn signals_after(changes: &[Change]) -> u32
-    ensures { result ≡ signals_after_lem 0 changes.now }
+    ensures { result ≡ signals_shown_after 0 changes.now }
 {
     changes
         .iter()

@@ -5,7 +5,7 @@ use records::readable::{BLANK, Readable};
 use std::process::Abort;
 
 // The state that the tests append as number i + 1.
-pub fn sample(i: u8) -> State {
+pub(crate) fn sample(i: u8) -> State {
     State {
         signals: u32::from_le_bytes([i ^ 0x55, i, 255 - i, i / 2]),
         nominal: i,
@@ -21,7 +21,7 @@ pub fn sample(i: u8) -> State {
 }
 
 // Appends the first samples to an empty record: it accepts as many as its capacity, and refuses the others.
-pub fn fills<R: Growing>(rt: &impl Abort, record: &mut R, times: u8) {
+pub(crate) fn fills<R: Growing>(rt: &impl Abort, record: &mut R, times: u8) {
     let capacity = record.capacity();
     assert_eq!(rt; record.count(), 0);
     for i in 0..times {
@@ -32,7 +32,7 @@ pub fn fills<R: Growing>(rt: &impl Abort, record: &mut R, times: u8) {
 }
 
 // The record holds the first n samples and nothing else.
-pub fn holds<R: Readable>(rt: &impl Abort, record: &R, n: u8) {
+pub(crate) fn holds<R: Readable>(rt: &impl Abort, record: &R, n: u8) {
     assert_eq!(rt; record.count(), usize::from(n));
     assert_eq!(rt; record.state(0), BLANK);
     for i in 0..n {

@@ -30,5 +30,5 @@ rule_kind k = record {
 }
 
 -- the numbers of a line as a rule, in range or not
-abbrev pub rule_of_lem : Numbers → Rule
-rule_of_lem v = record { condition = v.condition; content = v.content }
+abbrev pub rule_meant : Numbers → Rule
+rule_meant v = record { condition = v.condition; content = v.content }

@@ -15,7 +15,8 @@ pub struct Entry {
     pub b: u64,
 }
 
-// The entry that a formula line shows.
+// The entry that a formula line shows. `formula_kind 0` stands for the kind of any number: the form of a line does not depend
+// on the number that is due.
 pub(crate) fn entry_of(line: &[u8]) -> Option<Entry>
     ensures { MatchOption result (ShowsNone (formula_kind 0) line.now) (λ v. Formed v × (line.now ≡ entry_line v)) }
 {

@@ -2,7 +2,7 @@ ghost use Rattle.std.specs.Prelude.{◌≡◌, Decides};
 ghost use Rattle.rulelines.specs.Operands.{column_a, column_b, Within, meant};
 
 use fields::numbers::NUMBER_LIMIT;
-use logic::types::{Formula, MOST_KIND, SIGNALS};
+use logic::types::{Formula, MOST_KIND, MOST_NOMINAL, SIGNALS};
 use words::Operator;
 
 // What one of an operator's two numbers is.
@@ -47,7 +47,7 @@ fn within(operand: Operand, n: u64) -> bool
     match operand {
         Operand::Unused => n == 0,
         Operand::Signal => n < u64::from(SIGNALS),
-        Operand::Nominal => (1..=255).contains(&n),
+        Operand::Nominal => (1..=u64::from(MOST_NOMINAL)).contains(&n),
         Operand::Kind => (1..=u64::from(MOST_KIND)).contains(&n),
         Operand::Part => n <= NUMBER_LIMIT,
     }

@@ -1,6 +1,6 @@
 ghost use Rattle.std.specs.Prelude.{◌≡◌, MatchOption, MatchResult};
 ghost use Rattle.fields.specs.Kinds.{Takes, Refuses, ShowsNone};
-ghost use Rattle.rulelines.specs.Rules.{Formed, Ranged, rule_line, rule_kind, rule_of_lem};
+ghost use Rattle.rulelines.specs.Rules.{Formed, Ranged, rule_line, rule_kind, rule_meant};
 
 use faults::line::LineFault;
 use fields::lines::{Taken, read_line};
@@ -17,8 +17,10 @@ struct Numbers {
     content: u64,
 }
 
+// The numbers that a rule line shows. `rule_kind 0` stands for the kind of any number: the form of a line does not depend on
+// the number that is due.
 fn numbers_of(line: &[u8]) -> Option<Numbers>
-    ensures { MatchOption result (ShowsNone (rule_kind 0) line.now) (λ v. Formed v.number (rule_of_lem v) × (line.now ≡ rule_line v.number (rule_of_lem v))) }
+    ensures { MatchOption result (ShowsNone (rule_kind 0) line.now) (λ v. Formed v.number (rule_meant v) × (line.now ≡ rule_line v.number (rule_meant v))) }
 {
     let mut fields = Fields::of(line);
     let number = fields.number(RuleKey::Number)?;
@@ -33,7 +35,7 @@ fn numbers_of(line: &[u8]) -> Option<Numbers>
 
 // The rule that the numbers of a line give as number k, if they are in their ranges.
 fn rule_of(v: Numbers, k: usize) -> Option<Rule>
-    ensures { MatchOption result (Ranged k v.number (rule_of_lem v) → ⊥) (λ u. Ranged k v.number (rule_of_lem v) × (u ≡ rule_of_lem v)) }
+    ensures { MatchOption result (Ranged k v.number (rule_meant v) → ⊥) (λ u. Ranged k v.number (rule_meant v) × (u ≡ rule_meant v)) }
 {
     // A cast, since no `From` leads from `usize` to `u64`.
     if v.number != k as u64 || v.condition > NUMBER_LIMIT || v.content > NUMBER_LIMIT {

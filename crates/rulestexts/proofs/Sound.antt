@@ -1,7 +1,7 @@
 use Rattle.std.proofs.Common.{◌≡◌, ℕ, ◌+◌, ◌⊎◌, List, length, sym, ap, subst, ⊎_elim, arith}
 use Rattle.faults.specs.declared.read.ReadFault.{ReadFault}
 use Rattle.fields.specs.Runs.{Run}
-use Rattle.fields.proofs.Follow.{Single, Shorter, compared}
+use Rattle.fields.proofs.Follow.{OneWay, Shorter, compared}
 use Rattle.rulestexts.specs.Blocks.{Block, Begins, Stops, at_count, at_line}
 
 -- a block each line of which is taken in one way, or refused with one fault, and never both
@@ -9,7 +9,7 @@ pub record Clear {A : Type 0} (B : Block A) : Type 0 where
   pub one_count : (m n : ℕ) (t r s : List ℕ) → B.Counts m t r → B.Counts n t s → (m ≡ n) × (r ≡ s)
   pub count_or : (n : ℕ) (t r : List ℕ) (p : ℕ) (e : ReadFault) → B.Counts n t r → B.CountRefused t p e → ⊥
   pub count_fault : (t : List ℕ) (p : ℕ) (e f : ReadFault) → B.CountRefused t p e → B.CountRefused t p f → e ≡ f
-  pub one_line : Single B.Line
+  pub one_line : OneWay B.Line
   pub line_or : (k : ℕ) (x : A) (t r : List ℕ) (p : ℕ) (e : ReadFault) → B.Line k x t r → B.LineRefused k t p e → ⊥
   pub line_fault : (k : ℕ) (t : List ℕ) (p : ℕ) (e f : ReadFault) → B.LineRefused k t p e → B.LineRefused k t p f → e ≡ f
 

@@ -1,7 +1,7 @@
-use Rattle.std.proofs.Common.{◌≡◌, ℕ, ◌+◌, ◌<◌, List, length, drop, Ok, Err, codes, sym, ap, ◌∙◌, subst, inl, inr, arith, length-drop}
+use Rattle.std.proofs.Common.{◌≡◌, ℕ, ◌+◌, List, length, drop, Ok, Err, codes, sym, ap, ◌∙◌, subst, inl, inr, arith, length-drop}
 use Rattle.logic.specs.declared.types.Formula.{Formula}
 use Rattle.logic.specs.declared.types.Rule.{Rule}
-use Rattle.table.specs.Tables.{Ruled}
+use Rattle.table.specs.Tables.{NamesFormulas, Ruled}
 use Rattle.table.proofs.Fitting.{not_loose}
 use Rattle.faults.specs.declared.table.TableFault.TheVariants.{Dangling, Loose}
 use Rattle.faults.specs.declared.read.ReadFault.{ReadFault}
@@ -81,10 +81,10 @@ module _ (formulas : List Formula) where
   rule_fault k t p (Table (Dangling l)) (Line f) (at, (v, s, b, out)) y = absurd (fit_or (rule_kind k) (rule_single k) (k, v) t s p (Line f) b y)
   rule_fault k t p (Table (Dangling l)) (Table (Dangling m)) (at, x) (au, y) = ap (λ z. Table (Dangling z)) (at ∙ sym au)
   rule_fault k t p (Table (Dangling l)) (Table (Loose m)) (at, (v, s, b, out)) (au, (w, r, c, names, l')) =
-      absurd (out (subst (λ z. (z.condition < length formulas) × (z.content < length formulas)) (same_rule k w v t r s c b).0 names))
+      absurd (out (subst (NamesFormulas formulas) (same_rule k w v t r s c b).0 names))
   rule_fault k t p (Table (Loose l)) (Line f) (at, (v, s, b, names, l')) y = absurd (fit_or (rule_kind k) (rule_single k) (k, v) t s p (Line f) b y)
   rule_fault k t p (Table (Loose l)) (Table (Dangling m)) (au, (w, r, c, names, l')) (at, (v, s, b, out)) =
-      absurd (out (subst (λ z. (z.condition < length formulas) × (z.content < length formulas)) (same_rule k w v t r s c b).0 names))
+      absurd (out (subst (NamesFormulas formulas) (same_rule k w v t r s c b).0 names))
   rule_fault k t p (Table (Loose l)) (Table (Loose m)) (at, x) (au, y) = ap (λ z. Table (Loose z)) (at ∙ sym au)
 
   pub rules_clear : Clear (rule_block formulas)

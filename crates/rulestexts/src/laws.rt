@@ -1,6 +1,6 @@
 ghost use Rattle.rulestexts.specs.Texts.{OneReading};
 
 // A text is read in one way only.
-pub fn one_reading()
+pub(crate) fn one_reading()
     ensures { OneReading }
 {}

@@ -2,6 +2,6 @@
 #![tactic(auto)]
 
 pub mod joins;
-pub mod laws;
+mod laws;
 pub mod sections;
 pub mod texts;

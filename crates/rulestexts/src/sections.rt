@@ -46,7 +46,8 @@ pub(crate) fn read_formulas(text: &[u8]) -> Result<Section<'_>, ReadFault>
     })
 }
 
-// The rules that a text begins with, over the formulas read before; `place` is that of the first line.
+// The rules that a text begins with, over the formulas read before; `place` is that of the first line, at most 66: before it
+// stand the count of formulas and at most 64 of them. So no number of a line wraps.
 pub(crate) fn read_rules(
     text: &[u8],
     place: usize,

@@ -16,16 +16,17 @@ use Rattle.growth.specs.Growth.{labels_of}
 use Rattle.growth.specs.Laws.{Right}
 use Rattle.growth.proofs.Growing.{labels_mean_lem, labels_in_order_lem, labels_are_sound_lem, labels_grow_lem}
 use Rattle.logic.proofs.Beginnings.{lawful_goes_on_lem}
+use Rattle.logic.specs.Tests.{either_unfit}
 use Rattle.answers.specs.declared.types.Call.{Call}
 use Rattle.answers.specs.declared.types.Call.TheVariants.{Append}
 use Rattle.answers.specs.declared.types.Answer.{Answer}
 use Rattle.answers.specs.declared.types.Answer.TheVariants.{Number}
-use Rattle.answers.specs.Tests.{taken, misled}
+use Rattle.answers.specs.Tests.{taken}
 use Rattle.answers.specs.Answers.{Ground, or_else, refusal_of, outcome, accepted}
 use Rattle.answers.specs.Law.{Founded, Judged}
 use Rattle.answers.proofs.Judging.{judged}
 use Rattle.answers.proofs.Accepting.{accepted_lawful, accepted_small, nothing_lawful}
-use Rattle.answers.proofs.Tested.{taken_decides, misled_decides}
+use Rattle.answers.proofs.Tested.{taken_decides, reference_decides}
 use Rattle.answers.proofs.Telling.{label_told}
 use Rattle.monitor.specs.Book.{ground}
 use Rattle.runs.specs.Meant.{AppendRefused, Meant, GoesOn}
@@ -59,8 +60,8 @@ module _ (G : Ground) (xs : List State) (x : State) where
       first_is (taken xs x) (refusal.NominalTaken (length xs + 1)) _ why (AppendRefused G xs x) e2
       (λ b. (leb-false G.capacity (length xs) b2, (leb-false 256 (length xs) b1, refl, (taken_decides xs x).0 b)))
       (λ b3 e3.
-      first_is (misled x (length xs + 1)) (refusal.ReferenceUnfit (length xs + 1)) None why (AppendRefused G xs x) e3
-      (λ b. (leb-false G.capacity (length xs) b2, (leb-false 256 (length xs) b1, refl, (λ t. absurd (true≢false (sym ((taken_decides xs x).1 t) ∙ b3))), (misled_decides xs x).0 b)))
+      first_is (either_unfit x (length xs + 1)) (refusal.ReferenceUnfit (length xs + 1)) None why (AppendRefused G xs x) e3
+      (λ b. (leb-false G.capacity (length xs) b2, (leb-false 256 (length xs) b1, refl, (λ t. absurd (true≢false (sym ((taken_decides xs x).1 t) ∙ b3))), (reference_decides xs x).0 b)))
       (λ b4 e4. let z : ◌≡◌ {A = ℕ} 0 1 = cc in absurd (omega arith)))))
 
 meant : (table : List Formula) (rules : List Rule) (room : ℕ) (xs : List State) → LawfulRecord xs → length xs ≤ 256 → Meant (ground table rules room) xs

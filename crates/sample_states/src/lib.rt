@@ -2,8 +2,9 @@
 #![tactic(auto)]
 
 ghost use Rattle.std.specs.Prelude.{◌≡◌};
+ghost use Rattle.logic.specs.States.{no_reference};
 ghost use Rattle.sample_states.specs.Refused.{in_numbers};
-ghost use Rattle.sample_states.specs.States.{no_reference, reference, with_nominal, with_references};
+ghost use Rattle.sample_states.specs.States.{reference, with_nominal, with_references};
 
 use faults::fault::Fault;
 use logic::types::{Reference, State};

@@ -22,7 +22,7 @@ use Rattle.answers.specs.Law.{foreign, Ran, Judged}
 use Rattle.refusals.specs.declared.Refusal.{Refusal}
 use Rattle.monitor.specs.Book.{ground}
 use Rattle.runs.specs.Meant.{GoesOn}
-use Rattle.slots.specs.Slots.{slot_formulas, slot_rule, double_free_lem}
+use Rattle.slots.specs.Slots.{slot_formulas, slot_rule, double_free_log}
 use Rattle.slots.specs.ForGood.{slot_calls, slot_answers, slot_content, ForGood}
 
 -- ── The answers to a list of calls, one after another ──
@@ -45,7 +45,7 @@ pub slots_are : (formulas : List Formula) (rules : List Rule) (room : ℕ) → f
 slots_are formulas rules room f r n =
     ap (λ fs. ground fs rules room) f ∙ ap (λ rs. ground slot_formulas rs room) r ∙ ap (ground slot_formulas (slot_rule ∷ [])) n
 
-all_accepted : accepted slots [] slot_calls ≡ double_free_lem
+all_accepted : accepted slots [] slot_calls ≡ double_free_log
 unfolding carried_to
 all_accepted = refl
 
@@ -58,17 +58,17 @@ unfolding tree tree_to
 content_is = refl
 
 -- the labels that the answers tell
-freed_told : told slots double_free_lem (LabelAt 4 1 2) ≡ Ok (Reads is.True)
+freed_told : told slots double_free_log (LabelAt 4 1 2) ≡ Ok (Reads is.True)
 unfolding labels_of label until_from true_from false_from tree tree_to loose
 freed_told = refl
 
-taken_told : told slots double_free_lem (LabelAt 4 3 4) ≡ Ok (Reads is.False)
+taken_told : told slots double_free_log (LabelAt 4 3 4) ≡ Ok (Reads is.False)
 unfolding labels_of label until_from true_from false_from tree tree_to loose
 taken_told = refl
 
 pub as_expected : (G : Ground) (start : List State) (calls : List Call) (answers : List (Result Answer Refusal)) (ends : List State) →
     G ≡ slots → start ≡ [] → calls ≡ slot_calls → length answers ≡ 11 → Ran G start calls answers ends →
-    (answers ≡ slot_answers) × (ends ≡ double_free_lem)
+    (answers ≡ slot_answers) × (ends ≡ double_free_log)
 as_expected G start calls answers ends is-slots empty same long ran =
     let law : Ran slots [] slot_calls answers ends =
     subst (λ cs. Ran slots [] cs answers ends) same
@@ -80,12 +80,12 @@ as_expected G start calls answers ends is-slots empty same long ran =
       own.0 ∙ all_accepted,
     )
 
-pub lasts_for_good : (G : Ground) (ends : List State) → G ≡ slots → ends ≡ double_free_lem → Judged G ends → GoesOn ends → ForGood
+pub lasts_for_good : (G : Ground) (ends : List State) → G ≡ slots → ends ≡ double_free_log → Judged G ends → GoesOn ends → ForGood
 lasts_for_good G ends is-slots same law on =
-    let judged : Judged slots double_free_lem = subst (Judged slots) same (subst (λ H. Judged H ends) is-slots law) in
-    let so : (u : Trace) → Lawful u → Begins double_free_lem u → (v : ℕ) → Holds u v 1 slot_content = λ u lu b v.
+    let judged : Judged slots double_free_log = subst (Judged slots) same (subst (λ H. Judged H ends) is-slots law) in
+    let so : (u : Trace) → Lawful u → Begins double_free_log u → (v : ℕ) → Holds u v 1 slot_content = λ u lu b v.
     subst (Holds u v 1) content_is (judged.true_is_so 4 1 2 freed_told u lu b v) in
-    let not_so : (u : Trace) → Lawful u → Begins double_free_lem u → (v : ℕ) → Holds u v 3 slot_content → ⊥ = λ u lu b v h.
+    let not_so : (u : Trace) → Lawful u → Begins double_free_log u → (v : ℕ) → Holds u v 3 slot_content → ⊥ = λ u lu b v h.
     judged.false_is_not 4 3 4 taken_told u lu b v (subst (Holds u v 3) (sym content_is) h) in
     record {
       goes_on = subst GoesOn same on;

@@ -10,7 +10,7 @@ use Rattle.logic.specs.Lawful.{Lawful}
 use Rattle.logic.specs.Logic.{Tree, signal, not', next, until, Shows, Holds}
 use Rattle.logic.specs.States.{Trace, Begins}
 use Rattle.refusals.specs.declared.Refusal.{Refusal}
-use Rattle.slots.specs.Slots.{shown, double_free_lem}
+use Rattle.slots.specs.Slots.{shown, double_free_log}
 
 -- the six states of the log are appended; then the label of the rule's content is asked, at state 1 as point 2 reads it and at
 -- state 3 as point 4 does; then the standing of the expectation of state 3 at points 4, 5 and 6
@@ -36,8 +36,8 @@ FreedInTime u i = (k : ℕ) × (i < k) × Shows (u k) 1 × ((j : ℕ) → i < j 
 -- What holds of all lawful endless traces that begin with the log, of which there are some: the slot of state 1 is freed in
 -- time, and that of state 3 is not, whatever comes later.
 pub record ForGood : Type 0 where
-  pub goes_on : (u : Trace) × Lawful u × Begins double_free_lem u
-  pub content_true : (u : Trace) → Lawful u → Begins double_free_lem u → (v : ℕ) → Holds u v 1 slot_content
-  pub content_false : (u : Trace) → Lawful u → Begins double_free_lem u → (v : ℕ) → Holds u v 3 slot_content → ⊥
-  pub freed : (u : Trace) → Lawful u → Begins double_free_lem u → FreedInTime u 1
-  pub never_freed : (u : Trace) → Lawful u → Begins double_free_lem u → FreedInTime u 3 → ⊥
+  pub goes_on : (u : Trace) × Lawful u × Begins double_free_log u
+  pub content_true : (u : Trace) → Lawful u → Begins double_free_log u → (v : ℕ) → Holds u v 1 slot_content
+  pub content_false : (u : Trace) → Lawful u → Begins double_free_log u → (v : ℕ) → Holds u v 3 slot_content → ⊥
+  pub freed : (u : Trace) → Lawful u → Begins double_free_log u → FreedInTime u 1
+  pub never_freed : (u : Trace) → Lawful u → Begins double_free_log u → FreedInTime u 3 → ⊥

@@ -4,9 +4,9 @@ use Rattle.expectations.specs.declared.types.Standing.{Standing}
 use Rattle.expectations.specs.declared.types.Standing.TheVariants.{NotRaised, Pending, Fulfilled, Violated}
 use Rattle.logic.specs.declared.types.Formula.{Formula}
 use Rattle.logic.specs.declared.types.Formula.TheVariants.{Signal, Not, Until, Next}
-use Rattle.logic.specs.declared.types.Reference.{Reference}
 use Rattle.logic.specs.declared.types.Rule.{Rule}
 use Rattle.logic.specs.declared.types.State.{State}
+use Rattle.logic.specs.States.{no_reference}
 use Rattle.table.specs.Tables.{formulas_of, rules_of}
 use Rattle.table.specs.declared.defects.Defect.{Defect}
 use Rattle.table.specs.declared.finished.Table.{Table}
@@ -24,16 +24,13 @@ abbrev pub SlotTable : Result Table Defect → Type 0
 SlotTable (Ok t) = (formulas_of t.draft ≡ slot_formulas) × (rules_of t.draft ≡ slot_rule ∷ [])
 SlotTable (Err why) = ⊥
 
-abbrev pub no_reference : Reference
-no_reference = record { kind = 0; target = 0 }
-
 -- the state at which this signal alone is on
 abbrev pub shown : (signal : ℕ) → State
 shown signal = record { signals = 2 ^ signal; nominal = 0; first = no_reference; second = no_reference }
 
 -- at state 4 the slot is taken again before it was freed
-abbrev pub double_free_lem : List State
-double_free_lem = shown 0 ∷ shown 1 ∷ shown 0 ∷ shown 0 ∷ shown 1 ∷ shown 0 ∷ []
+abbrev pub double_free_log : List State
+double_free_log = shown 0 ∷ shown 1 ∷ shown 0 ∷ shown 0 ∷ shown 1 ∷ shown 0 ∷ []
 
 -- the decision is dated before the truncation point
 abbrev pub ViolatedBefore : (point : ℕ) → Standing → Type 0

@@ -1,6 +1,6 @@
 // The log of a double free.
 ghost use Rattle.std.specs.Prelude.{◌≡◌, ◌^◌, ◌<◌};
-ghost use Rattle.slots.specs.Slots.{shown, double_free_lem};
+ghost use Rattle.slots.specs.Slots.{shown, double_free_log};
 
 use crate::rule::{FREE, TAKE};
 use logic::types::State;
@@ -18,7 +18,7 @@ fn showing(signal: u8) -> State
 }
 
 pub fn double_free() -> [State; 6]
-    ensures { result ≡ double_free_lem }
+    ensures { result ≡ double_free_log }
 {
     let take = showing(TAKE);
     let free = showing(FREE);

@@ -51,6 +51,7 @@ fn main(rt: HostRuntime) -> io::Result<()> {
         Err(defect) => return println!(rt; "{defect}"),
     };
     let log = double_free();
+    // Room for the six states, and two rows more: a record may be longer than its log.
     let mut rows = [BLANK; 8];
     println!(rt; "record=table")?;
     ended(&rt, story(&rt, table, TableRecord::new(&mut rows), &log))?;

@@ -12,7 +12,7 @@ use records::growing::Growing;
 use records::readable::Readable;
 use table::finished::Table;
 
-// One rule tells at most one raising and one decision for each state at a truncation point.
+// At a truncation point one rule tells at most one raising, of the point's own state, and one decision of each state.
 const MOST_NOTICES: usize = MOST_STATES + 1;
 
 fn print_notices<R: Growing>(
@@ -52,7 +52,7 @@ fn print_still_violated<R: Growing>(
 
 // Appends the states one by one. After each it prints the point's notices and which expectations are still violated, and in
 // the end the tally. The first refusal ends it.
-pub fn story<R: Growing + Drop>(
+pub(crate) fn story<R: Growing + Drop>(
     rt: &HostRuntime,
     table: Table,
     log: R,

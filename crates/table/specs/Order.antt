@@ -4,10 +4,7 @@ use Rattle.std.specs.Coded.{×_prop, Π_prop, →_prop, Unit-prop, le_prop}
 use Rattle.logic.specs.declared.types.Formula.{Formula}
 use Rattle.logic.specs.declared.types.Formula.TheVariants.{True, Signal, Nominal, Not, And, Or, Next, Previous, Until, Since, At, Reference, Bind, Some}
 use Rattle.logic.specs.declared.types.Rule.{Rule}
-use Rattle.logic.specs.Tables.{InRange, EachPart, OrderlyTable, loose}
-
-abbrev pub no_rule : Rule
-no_rule = record { condition = 0; content = 0 }
+use Rattle.logic.specs.Tables.{no_rule, InRange, EachPart, OrderlyTable, loose}
 
 -- a rule may join the formulas: it names two of them, and neither is loose
 abbrev pub NamesFormulas : List Formula → Rule → Type 0

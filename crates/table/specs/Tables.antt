@@ -3,8 +3,8 @@ use Rattle.std.specs.Prelude.{◌≡◌, ℕ, ◌<◌, ◌≤◌, Bool, ◌⊎�
 use Rattle.logic.specs.declared.types.Formula.{Formula}
 use Rattle.logic.specs.declared.types.Rule.{Rule}
 use Rattle.logic.specs.declared.types.Formula.TheVariants.{True}
-use Rattle.logic.specs.Tables.{InRange, EachPart, Orderly}
-pub use Rattle.table.specs.Order.{no_rule, NamesFormulas, NamesLoose, Ruled, InOrder}
+use Rattle.logic.specs.Tables.{no_rule, InRange, EachPart, Orderly}
+pub use Rattle.table.specs.Order.{NamesFormulas, NamesLoose, Ruled, InOrder}
 use Rattle.table.specs.declared.defects.Defect.{Defect}
 use Rattle.table.specs.declared.defects.Defect.TheVariants.{OutOfRange, PartNotBelow, NoSuchFormula, LooseRule}
 use Rattle.table.specs.declared.draft.Draft.{Draft}

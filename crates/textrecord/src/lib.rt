@@ -1,6 +1,6 @@
 // The text record: the states of a trace text, read straight from its bytes.
 #![tactic(auto)]
 
-pub mod laws;
+mod laws;
 pub mod scans;
 pub mod text;

@@ -1,6 +1,6 @@
 ghost use Rattle.traces.specs.Traces.{OneReading};
 
 // A text is read in one way only.
-pub fn one_reading()
+pub(crate) fn one_reading()
     ensures { OneReading }
 {}

@@ -1,6 +1,6 @@
 // Trace lines: one state of a log each.
 #![tactic(auto)]
 
-pub mod laws;
+mod laws;
 pub mod numbers;
 pub mod states;

@@ -18,7 +18,8 @@ pub(crate) struct Numbers {
     pub(crate) second_target: u64,
 }
 
-// The numbers that a trace line shows.
+// The numbers that a trace line shows. `trace_kind 0` stands for the kind after any count of states: the form of a line does
+// not depend on the count.
 pub(crate) fn numbers_of(line: &[u8]) -> Option<Numbers>
     ensures { MatchOption result (ShowsNone (trace_kind 0) line.now) (λ v. Formed v.state (state_of v) × (line.now ≡ trace_line v.state (state_of v))) }
 {

@@ -2,8 +2,9 @@
 use Rattle.std.proofs.Common.{◌≡◌, ℕ, ◌+◌, ◌<◌, ◌≤◌, List, length, get_or, drop, sym, ap, ◌∙◌, add-zero, add_assoc, zero-add, arith}
 use Rattle.std.proofs.lemmas.List.{drop_more, drop_all}
 use Rattle.logic.specs.declared.types.Rule.{Rule}
+use Rattle.logic.specs.Tables.{no_rule}
 use Rattle.expectations.specs.declared.types.Tally.{Tally}
-use Rattle.expectations.specs.Expectations.{Labels, no_rule, no_tally, tallied}
+use Rattle.expectations.specs.Expectations.{Labels, no_tally, tallied}
 use Rattle.monitor.proofs.Tallies.{few}
 use Rattle.watch_lib.specs.Sums.{plus, summed, Few}
 

@@ -15,7 +15,7 @@ use Rattle.answers.specs.Answers.{Ground, refusal_of, refused_by, outcome}
 use Rattle.answers.proofs.Refusing.{outcome_ok, outcome_err}
 use Rattle.watch_lib.specs.declared.lines.Line.{Line}
 use Rattle.watch_lib.specs.declared.lines.Line.TheVariants.{Told, Refused}
-use Rattle.watch_lib.specs.Watched.{point_lines, end_line_lem, Reaches, none, more, NotTaken, Traced, Steps}
+use Rattle.watch_lib.specs.Watched.{point_lines, closing_line, Reaches, none, more, NotTaken, Traced, Steps}
 
 -- a line that is taken has a byte at least
 pub uses : (K : Kind) (text : List ℕ) (v : K.Value) (used : ℕ) → Takes K text v used → (1 ≤ used) × (used ≤ length text)
@@ -56,9 +56,9 @@ pub begun : (G : Ground) (text : List ℕ) (xs : List State) (lines : List Line)
 begun G text xs lines e f = subst (λ zs. Reaches G text zs text lines) (sym e) (subst (λ ls. Reaches G text [] text ls) (sym f) none)
 
 pub finished : (G H : Ground) (start rest : List ℕ) (xs : List State) (before lines : List Line) (place : ℕ) (last : Line)
-    → H ≡ G → Reaches G start xs rest before → length rest ≡ 0 → last ≡ end_line_lem H xs → lines ≡ before ++ last ∷ [] → Traced G start place lines
+    → H ≡ G → Reaches G start xs rest before → length rest ≡ 0 → last ≡ closing_line H xs → lines ≡ before ++ last ∷ [] → Traced G start place lines
 finished G H start rest xs before lines place last h reaches none_left e all =
-    record { states = xs; rest = rest; before = before; last = end_line_lem G xs; reaches = reaches; closes = (none_left, refl); all = all ∙ ap (λ l. before ++ l ∷ []) (e ∙ ap (λ (g : Ground). end_line_lem g xs) h) }
+    record { states = xs; rest = rest; before = before; last = closing_line G xs; reaches = reaches; closes = (none_left, refl); all = all ∙ ap (λ l. before ++ l ∷ []) (e ∙ ap (λ (g : Ground). closing_line g xs) h) }
 
 pub broken : (G H : Ground) (start rest : List ℕ) (xs ys : List State) (before lines : List Line) (place number : ℕ) (line : Line)
     → H ≡ G → Reaches G start xs rest before → 0 < length rest → Steps H xs rest number (Err line) ys → number ≡ place + length xs → lines ≡ before ++ line ∷ [] → Traced G start place lines

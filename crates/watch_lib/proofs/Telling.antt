@@ -2,7 +2,8 @@
 use Rattle.std.proofs.Common.{◌≡◌, ℕ, zero, suc, ◌+◌, ◌-◌, ◌<◌, ◌≤◌, List, [], ◌∷◌, ◌++◌, length, get_or, take, sym, ap, ◌∙◌, append_assoc, add-one, arith}
 use Rattle.std.proofs.lemmas.List.{append-nil}
 use Rattle.logic.specs.declared.types.Rule.{Rule}
-use Rattle.expectations.specs.Expectations.{Labels, no_rule, of_state, from_state, from_rule}
+use Rattle.logic.specs.Tables.{no_rule}
+use Rattle.expectations.specs.Expectations.{Labels, of_state, from_state, from_rule}
 
 module _ (labels : Labels) (c : ℕ) where
   state_after : (k : ℕ) (r : Rule) (m s t : ℕ) → t ≡ s + m → from_state labels c k r (suc m) s ≡ from_state labels c k r m s ++ of_state labels c k r t

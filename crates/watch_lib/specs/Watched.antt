@@ -25,8 +25,8 @@ abbrev pub point_lines : Ground → List State → List Line
 point_lines G xs = map (Told (length xs)) (notices (G.labelled xs) G.rules (length xs))
 
 -- the end line after the states xs
-abbrev pub end_line_lem : Ground → List State → Line
-end_line_lem G xs = End (length xs) (summed (G.labelled xs) (length xs) G.rules)
+abbrev pub closing_line : Ground → List State → Line
+closing_line G xs = End (length xs) (summed (G.labelled xs) (length xs) G.rules)
 
 -- The text `start` begins with trace lines of states that are all accepted, after which a text is left; the lines are those
 -- that these states give.
@@ -47,7 +47,7 @@ NotTaken G xs text n =
 abbrev pub Closes : Ground → List State → (text : List ℕ) → (place : ℕ) → Line → Type 0
 Closes G xs text place (Told c x) = ⊥
 Closes G xs text place (Refused n l) = (0 < length text) × (l ≡ place) × NotTaken G xs text n
-Closes G xs text place (End n t) = (length text ≡ 0) × (End n t ≡ end_line_lem G xs)
+Closes G xs text place (End n t) = (length text ≡ 0) × (End n t ≡ closing_line G xs)
 
 -- what is printed of a text of trace lines, the first of which has the number `place`
 pub record Traced (G : Ground) (text : List ℕ) (place : ℕ) (lines : List Line) : Type 0 where
@@ -59,7 +59,8 @@ pub record Traced (G : Ground) (text : List ℕ) (place : ℕ) (lines : List Lin
   pub closes : Closes G states rest (place + length states) last
   pub all : lines ≡ before ++ last ∷ []
 
--- what is printed of an input
+-- What is printed of an input. It may have 32768 bytes, `MOST_BYTES` of src/watch.rt; a longer one gets 9, the number of
+-- `MemoryTooShort`, at place 0.
 pub data Watched (input : List ℕ) (lines : List Line) : Type 0 where
   too_long : 32768 < length input → lines ≡ Refused 9 0 ∷ [] → Watched input lines
   unruled : length input ≤ 32768 → (e : ReadFault) → rulesText.Refused input e → lines ≡ Refused (refusal e).number (refusal e).place ∷ [] → Watched input lines

@@ -1,10 +1,11 @@
 // The line at the end of a log.
 ghost use Rattle.std.specs.Prelude.{◌≡◌, ◌<◌, length, slice_index_or};
-ghost use Rattle.expectations.specs.Expectations.{no_rule, tallied};
+ghost use Rattle.logic.specs.Tables.{no_rule};
+ghost use Rattle.expectations.specs.Expectations.{tallied};
 ghost use Rattle.growth.specs.Growth.{labels_of};
 ghost use Rattle.monitor.specs.Book.{ground_of, table_of, rules_in};
 ghost use Rattle.watch_lib.specs.Sums.{plus as sum_of, Few};
-ghost use Rattle.watch_lib.specs.Watched.{end_line_lem};
+ghost use Rattle.watch_lib.specs.Watched.{closing_line};
 
 use crate::lines::Line;
 use crate::watcher::Watcher;
@@ -12,7 +13,8 @@ use expectations::types::Tally;
 use records::growing::Growing;
 use records::readable::Readable;
 
-// Not `Add`: the type is another crate's.
+// Not `Add`: the type is another crate's. At most 16 tallies of 256 are added up, which is below 65536; any such bound
+// serves, so that no sum wraps.
 fn plus(a: Tally, b: Tally) -> Tally
     requires few { Few 65536 a }
     requires fewer { Few 256 b }
@@ -39,7 +41,7 @@ impl<R: Growing> Watcher<R> {
 
     // The end line after the states that were accepted.
     pub(crate) fn end_line(&self) -> Line
-        ensures { result ≡ end_line_lem (ground_of self.now.monitor.book (R.Growing.room self.now.monitor.log)) (R.Readable.states self.now.monitor.log) }
+        ensures { result ≡ closing_line (ground_of self.now.monitor.book (R.Growing.room self.now.monitor.log)) (R.Readable.states self.now.monitor.log) }
     {
         let mut tally = Tally::default();
         // By number: a monitor is asked for the tally of rule k. Not by `fold`: what a sum has to stay below is said in the

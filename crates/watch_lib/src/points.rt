@@ -2,7 +2,8 @@
 ghost use Rattle.std.specs.Prelude.{◌≡◌, ◌<◌, ◌≤◌, ◌++◌, map, length, OnOk, slice_index_or};
 ghost use Rattle.std.specs.List.{flat_map};
 ghost use Rattle.std.specs.Option.{option_to_list};
-ghost use Rattle.expectations.specs.Expectations.{standing, no_rule, of_state, from_state, notices};
+ghost use Rattle.logic.specs.Tables.{no_rule};
+ghost use Rattle.expectations.specs.Expectations.{standing, of_state, from_state, notices};
 ghost use Rattle.growth.specs.Growth.{labels_of};
 ghost use Rattle.monitor.specs.Book.{table_of, rules_in};
 ghost use Rattle.watch_lib.specs.declared.lines.Line.TheVariants.{Told};

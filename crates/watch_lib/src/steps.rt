@@ -27,7 +27,9 @@ impl<R: Growing> Watcher<R> {
         Ok(line.used)
     }
 
-    // The lines of a text of trace lines, the first of which has the number `place`, after no state.
+    // The lines of a text of trace lines, the first of which has the number `place`, after no state. That number is at most
+    // 64 + 16 + 3, of a table's formulas and rules with their two counts before it; any small bound serves, so that no number
+    // of a line wraps.
     pub(crate) fn follow(
         &mut self,
         heap: Global,

@@ -1,5 +1,6 @@
-// The letters that words and keys are made of. Named, and not byte literals in the patterns: slice patterns of named bytes
-// are a form of the project.
+// The letters that words and keys are made of. Named, and no byte literals, since words and keys are recognised by slice
+// patterns: `[A, T]` is the word `at`, and `[F, EQUALS, rest @ ..]` the key `f=` with what follows it. So each reads as it is
+// written.
 
 pub const A: u8 = b'a';
 

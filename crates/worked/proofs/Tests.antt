@@ -1,14 +1,15 @@
 -- Tests by which lawful logs and orderly tables are recognised.
 use Rattle.std.proofs.Common.{◌≡◌, ℕ, zero, suc, ◌<◌, ◌≤◌, Bool, true, false, not, ◌&&◌, ◌||◌, eqb, ltb, leb, List, length, get_or, Decides, sym, refl, subst, inl, inr, arith}
-use Rattle.std.proofs.lemmas.Bool.{cases_eq, leb-true, le-leb, ltb-true, and_parts}
-use Rattle.std.proofs.lemmas.Bool.Decides.{Decides-eqb, Decides-ltb, Decides-and, Decides-or, Decides-not, Decides-like, Decides-below_and, Decides-below_or}
-use Rattle.logic.specs.declared.types.Reference.{Reference}
+use Rattle.std.proofs.lemmas.Bool.{cases_eq, leb-true, ltb-true, and_parts}
+use Rattle.std.proofs.lemmas.Bool.Decides.{Decides-eqb, Decides-ltb, Decides-and, Decides-not, Decides-like, Decides-below_and, Decides-below_or}
 use Rattle.logic.specs.declared.types.State.{State}
 use Rattle.logic.specs.declared.types.Formula.{Formula}
 use Rattle.logic.specs.declared.types.Formula.TheVariants.{True, Signal, Nominal, Not, And, Or, Next, Previous, Until, Since, At, Variable, Reference as Referring, Bind, Some}
 use Rattle.logic.specs.States.{Trace, state_at}
-use Rattle.logic.specs.Lawful.{NominalTaken, Unfit, ReferenceUnfit, Fit, LawfulTo, LawfulRecord}
+use Rattle.logic.specs.Lawful.{NominalTaken, ReferenceUnfit, Fit, LawfulTo, LawfulRecord}
+use Rattle.logic.specs.Tests.{either_unfit}
 use Rattle.logic.specs.Tables.{Orderly, OrderlyTable}
+use Rattle.logic.proofs.Tested.{either_unfit_decides}
 
 -- ── Lawful logs ──
 
@@ -28,23 +29,11 @@ decides_taken s i =
     (Decides-below_or (λ j. ltb 0 j && eqb (s j).nominal a) (λ j. (1 ≤ j) × ((s j).nominal ≡ a)) (stands s a)
     (λ j. Decides-and (ltb 0 j) (eqb (s j).nominal a) (Decides-ltb 0 j) (Decides-eqb (s j).nominal a)) refl (λ _. refl) i))
 
-abbrev unfit : Reference → ℕ → Bool
-unfit l i = ltb 15 l.kind || ((eqb l.kind 0 && ltb 0 l.target) || (ltb 0 l.kind && (eqb l.target 0 || leb i l.target)))
-
-decides_unfit : (l : Reference) (i : ℕ) → Decides (unfit l i) (Unfit l i)
-decides_unfit l i =
-    let k : ℕ = l.kind in
-    let t : ℕ = l.target in
-    Decides-or (ltb 15 k) ((eqb k 0 && ltb 0 t) || (ltb 0 k && (eqb t 0 || leb i t))) (Decides-ltb 15 k)
-    (Decides-or (eqb k 0 && ltb 0 t) (ltb 0 k && (eqb t 0 || leb i t))
-    (Decides-and (eqb k 0) (ltb 0 t) (Decides-eqb k 0) (Decides-ltb 0 t))
-    (Decides-and (ltb 0 k) (eqb t 0 || leb i t) (Decides-ltb 0 k) (Decides-or (eqb t 0) (leb i t) (Decides-eqb t 0) (leb-true i t, le-leb i t))))
-
 abbrev pub unfit' : Trace → ℕ → Bool
-unfit' s i = unfit (s i).first i || unfit (s i).second i
+unfit' s i = either_unfit (s i) i
 
 pub decides_reference : (s : Trace) (i : ℕ) → Decides (unfit' s i) (ReferenceUnfit s i)
-decides_reference s i = Decides-or (unfit (s i).first i) (unfit (s i).second i) (decides_unfit (s i).first i) (decides_unfit (s i).second i)
+decides_reference s i = either_unfit_decides (s i) i
 
 abbrev fit : Trace → ℕ → Bool
 fit s i = not (taken' s i) && not (unfit' s i)

@@ -1,30 +1,27 @@
 -- The worked examples, as tables.
 use Rattle.std.specs.Prelude.{ℕ, Bool, true, false, List, [], ◌∷◌, ℤ, pos, neg_ℤ}
-use Rattle.logic.specs.declared.types.Reference.{Reference}
 use Rattle.logic.specs.declared.types.State.{State}
 use Rattle.logic.specs.declared.types.Formula.{Formula}
 use Rattle.logic.specs.declared.types.Formula.TheVariants.{True, Signal, Nominal, Not, And, Or, Next, Previous, Until, Since, At, Variable, Reference as Refers, Bind, Some}
+use Rattle.logic.specs.States.{no_reference}
 
 -- ── States ──
 
-abbrev pub none : Reference
-none = record { kind = 0; target = 0 }
-
 -- a state with these signals, and nothing else
 abbrev pub plain : (signals : ℕ) → State
-plain x = record { signals = x; nominal = 0; first = none; second = none }
+plain x = record { signals = x; nominal = 0; first = no_reference; second = no_reference }
 
 -- and with a nominal
 abbrev pub called : (signals nominal : ℕ) → State
-called x a = record { signals = x; nominal = a; first = none; second = none }
+called x a = record { signals = x; nominal = a; first = no_reference; second = no_reference }
 
 -- a state with no signal on, and a reference
 abbrev pub referring : (kind target : ℕ) → State
-referring a t = record { signals = 0; nominal = 0; first = record { kind = a; target = t }; second = none }
+referring a t = record { signals = 0; nominal = 0; first = record { kind = a; target = t }; second = no_reference }
 
 -- and the same as its second one
 abbrev pub referring_second : (kind target : ℕ) → State
-referring_second a t = record { signals = 0; nominal = 0; first = none; second = record { kind = a; target = t } }
+referring_second a t = record { signals = 0; nominal = 0; first = no_reference; second = record { kind = a; target = t } }
 
 abbrev pub minus : ℕ → ℤ
 minus n = neg_ℤ (pos n)

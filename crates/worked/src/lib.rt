@@ -5,15 +5,18 @@ ghost use Rattle.std.specs.Prelude.{◌≡◌, ◌+◌, length};
 ghost use Rattle.worked.specs.Examples.{labels, further_labels, raisings, offers, further_offers};
 ghost use Rattle.worked.specs.Claims.{WorkedExamples, FurtherExamples};
 
-// Every example of the tables comes out as the tables say.
-pub fn worked_examples()
-    ensures { WorkedExamples }
-{}
+// Every example of its tables comes out as they say; answers how many there are.
+pub fn worked_examples() -> usize
+    ensures count { result ≡ length labels + length raisings + length offers }
+    ensures right { WorkedExamples }
+{
+    17
+}
 
-// Every further example comes out as the tables say; answers how many examples there are in all.
+// Every further example comes out as its tables say; answers how many there are.
 pub fn further_examples() -> usize
-    ensures count { result ≡ length labels + length further_labels + length raisings + length offers + length further_offers }
+    ensures count { result ≡ length further_labels + length further_offers }
     ensures right { FurtherExamples }
 {
-    60
+    43
 }

@@ -1,5 +1,6 @@
 use Rattle.std.proofs.Common.{◌+◌, get_or, drop, arith}
-use Rattle.expectations.specs.Expectations.{no_rule, from_rule}
+use Rattle.logic.specs.Tables.{no_rule}
+use Rattle.expectations.specs.Expectations.{from_rule}
 use Rattle.monitor.specs.Book.{held, rules_in}
 use Rattle.monitor.proofs.Notices.{state_begins}
 use Rattle.monitor.proofs.book.Book.notice.Goals as goal

@@ -1,5 +1,6 @@
 use Rattle.std.proofs.Common.{◌≡◌, length, get_or, arith, rules}
-use Rattle.expectations.specs.Expectations.{no_rule, tallied}
+use Rattle.logic.specs.Tables.{no_rule}
+use Rattle.expectations.specs.Expectations.{tallied}
 use Rattle.growth.specs.Growth.{labels_of}
 use Rattle.monitor.specs.Book.{table_of, rules_in}
 use Rattle.watch_lib.proofs.Adding.{tally_few}

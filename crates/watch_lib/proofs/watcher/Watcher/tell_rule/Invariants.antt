@@ -1,5 +1,6 @@
 use Rattle.std.proofs.Common.{◌≡◌, ◌-◌, ◌++◌, get_or, map, vec_items}
-use Rattle.expectations.specs.Expectations.{no_rule, from_state}
+use Rattle.logic.specs.Tables.{no_rule}
+use Rattle.expectations.specs.Expectations.{from_state}
 use Rattle.growth.specs.Growth.{labels_of}
 use Rattle.monitor.specs.Book.{table_of, rules_in}
 use Rattle.watch_lib.specs.declared.lines.Line.TheVariants.{Told}
