@@ -14,10 +14,10 @@ no_reference = record { kind = 0; target = 0 }
 
 -- none, two of kind 1, and one of kind 2
 abbrev pub referring : (digit : ℕ) → Reference
-referring d =
-    cond (d == 1) (record { kind = 1; target = 1 })
-    (cond (d == 2) (record { kind = 1; target = 2 })
-    (cond (d == 3) (record { kind = 2; target = 1 }) no_reference))
+referring digit =
+    cond (digit == 1) (record { kind = 1; target = 1 })
+    (cond (digit == 2) (record { kind = 1; target = 2 })
+    (cond (digit == 3) (record { kind = 2; target = 1 }) no_reference))
 
 -- a state with these signals, with nominal 1 or none, and with a first reference
 abbrev pub small : (signals : ℕ) → (named : Bool) → (first : Reference) → State

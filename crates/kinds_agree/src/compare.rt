@@ -59,8 +59,8 @@ fn is_labelled<K: LabelKind + Copy>(
     label_whole(table, &Rows::new(log), labels, work).is_ok()
 }
 
-// Labels the log in both kinds. Cells without a label are unknown in both. Arrays, and no `Vec`: an allocation could fail, and
-// this answers without failure.
+// Labels the log in both kinds. Cells without a label are unknown in both. Wherever there are labels they tell the same, so the
+// answer is whether the log can be labelled. Arrays, and no `Vec`: an allocation could fail, and this answers without failure.
 pub fn kinds_agree(table: &Table, log: &[State]) -> bool
     ensures told { result ≡ true → KindsAgreed (formulas_of table.now.draft) log.now }
     ensures exact { Decides result (Labellable 64 96 (formulas_of table.now.draft) log.now) }
