@@ -1,7 +1,9 @@
 // Whether the two kinds of label tell the same of a log.
-ghost use Rattle.std.specs.Prelude.{◌≡◌, ◌<◌, ◌≤◌, Bool, true, length};
+ghost use Rattle.std.specs.Prelude.{◌≡◌, ◌<◌, ◌≤◌, Bool, Decides, true, length};
 ghost use Rattle.labels.specs.Readings.{Same};
-ghost use Rattle.kinds_agree.specs.Sames.{SameTo};
+ghost use Rattle.table.specs.Tables.{formulas_of};
+ghost use Rattle.labelling.specs.Whole.{Labelled};
+ghost use Rattle.kinds_agree.specs.Sames.{SameTo, Labellable, KindsAgreed};
 
 use labelling::whole::label_whole;
 use labels::LabelKind;
@@ -39,19 +41,35 @@ fn same_readings<A: LabelKind + Copy, B: LabelKind + Copy>(a: A, b: B) -> bool
 fn same_labels<A: LabelKind + Copy, B: LabelKind + Copy>(first: &[A], second: &[B]) -> bool
     ensures lengths { result ≡ true → length first.now ≡ length second.now }
     ensures told { 64 ≤ A.LabelKind.reach → 64 ≤ B.LabelKind.reach → result ≡ true → SameTo A.LabelKind.reads B.LabelKind.reads first.now second.now (length first.now) }
+    ensures found { 64 ≤ A.LabelKind.reach → 64 ≤ B.LabelKind.reach → length first.now ≡ length second.now → SameTo A.LabelKind.reads B.LabelKind.reads first.now second.now (length first.now) → result ≡ true }
 {
     first.len() == second.len() && first.iter().zip(second).all(|(a, b)| same_readings(*a, *b))
 }
 
-// Labels the log in both kinds. Cells without a label are unknown in both. Arrays, and no `Vec`: an allocation could fail, and
-// this answers without failure.
-pub fn kinds_agree(table: &Table, log: &[State]) -> bool {
+// Labels the log in one kind, and tells whether that is not declined.
+fn is_labelled<K: LabelKind + Copy>(
+    table: &Table,
+    log: &[State],
+    labels: &mut [K],
+    work: &mut [K],
+) -> bool
+    ensures told { result ≡ true → Labelled K.reads K.reach (formulas_of table.now.draft) log.now labels.old work.old labels.new work.new }
+    ensures found { length work.old ≡ length labels.old → Labellable K.reach (length labels.old) (formulas_of table.now.draft) log.now → result ≡ true }
+{
+    label_whole(table, &Rows::new(log), labels, work).is_ok()
+}
+
+// Labels the log in both kinds. Cells without a label are unknown in both. Wherever there are labels they tell the same, so the
+// answer is whether the log can be labelled. Arrays, and no `Vec`: an allocation could fail, and this answers without failure.
+pub fn kinds_agree(table: &Table, log: &[State]) -> bool
+    ensures told { result ≡ true → KindsAgreed (formulas_of table.now.draft) log.now }
+    ensures exact { Decides result (Labellable 64 96 (formulas_of table.now.draft) log.now) }
+{
     let mut dated = [Dated::unknown(); CELLS];
     let mut dated_work = [Dated::unknown(); CELLS];
     let mut strips = [Strip::unknown(); CELLS];
     let mut strip_work = [Strip::unknown(); CELLS];
-    let record = Rows::new(log);
-    let in_dates = label_whole(table, &record, &mut dated, &mut dated_work);
-    let in_strips = label_whole(table, &record, &mut strips, &mut strip_work);
-    in_dates.is_ok() && in_strips.is_ok() && same_labels(&dated, &strips)
+    let in_dates = is_labelled(table, log, &mut dated, &mut dated_work);
+    let in_strips = is_labelled(table, log, &mut strips, &mut strip_work);
+    in_dates && in_strips && same_labels(&dated, &strips)
 }

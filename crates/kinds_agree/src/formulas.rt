@@ -1,4 +1,6 @@
 // A table with all fifteen operators.
+ghost use Rattle.kinds_agree.specs.Logs.{FullTable};
+
 use logic::types::{Formula, Rule};
 use table::defects::Defect;
 use table::finished::Table;
@@ -30,7 +32,9 @@ const FORMULAS: [Formula; 22] = [
     Formula::Next(19),
 ];
 
-pub fn full_table() -> Result<Table, Defect> {
+pub fn full_table() -> Result<Table, Defect>
+    ensures { FullTable result }
+{
     Table::of(
         &FORMULAS,
         &[Rule {

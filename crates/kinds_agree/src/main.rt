@@ -1,7 +1,10 @@
 // Labels small logs in both kinds of label, and compares what they tell at every formula, state and truncation point.
 #![tactic(auto)]
 
-ghost use Rattle.std.specs.Prelude.{◌≤◌};
+ghost use Rattle.std.specs.Prelude.{◌≡◌, ℕ, ◌<◌, ◌≤◌, length};
+ghost use Rattle.table.specs.Tables.{formulas_of};
+ghost use Rattle.kinds_agree.specs.Logs.{numbered};
+ghost use Rattle.kinds_agree.specs.Sames.{KindsAgreed};
 
 mod compare;
 mod formulas;
@@ -17,18 +20,26 @@ use table::finished::Table;
 // of the last state or with none.
 const LOGS: usize = 1024;
 
+// How many of the logs have labels in both kinds that tell the same. A table with at most 32 formulas takes at most 96 cells.
 fn count_agreeing(table: &Table) -> usize
-    ensures { result ≤ 1024 }
+    ensures most { result ≤ 1024 }
+    ensures each { result ≡ 1024 → (k : ℕ) → k < 1024 → KindsAgreed (formulas_of table.now.draft) (numbered k) }
+    ensures all { length (formulas_of table.now.draft) ≤ 32 → result ≡ 1024 }
 {
-    (0..LOGS)
-        .filter(|k| kinds_agree(table, &numbered_log(*k)))
-        .count()
+    let mut agreed = 0;
+    for k in 0..LOGS {
+        if kinds_agree(table, &numbered_log(k)) {
+            agreed += 1;
+        }
+    }
+    agreed
 }
 
 fn main(rt: HostRuntime) -> io::Result<()> {
     match full_table() {
         Ok(table) => {
             let agreed = count_agreeing(&table);
+            prove!(agreed == LOGS);
             println!(rt; "logs={LOGS} agreed={agreed}")
         }
         Err(defect) => println!(rt; "{defect}"),

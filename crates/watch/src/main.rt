@@ -16,11 +16,11 @@ const WRONG_CALL: u8 = 2;
 // Prints what becomes of the log on standard input.
 fn print_lines(rt: &HostRuntime) -> io::Result<()> {
     let mut input = Vec::new(rt.alloc());
-    // One byte more than the longest input, so that a longer one is known for what it is. A cast, since no `From` leads from
-    // `usize` to `u64`.
-    rt.stdin()
-        .take(MOST_BYTES as u64 + 1)
-        .read_to_end(&mut input)?;
+    // One byte more than the longest input, so that a longer one is known for what it is.
+    let most = MOST_BYTES + 1;
+    prove!(most > MOST_BYTES);
+    // A cast, since no `From` leads from `usize` to `u64`.
+    rt.stdin().take(most as u64).read_to_end(&mut input)?;
     let lines = watch(rt.alloc(), input.as_slice())?;
     for line in &lines {
         println!(rt; "{line}")?;
