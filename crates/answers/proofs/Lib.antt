@@ -5,3 +5,4 @@ pub mod Stepping
 pub mod Deciding
 pub mod Telling
 pub mod Judging
+pub mod Queried

@@ -1,4 +1,5 @@
 pub mod Tests
 pub mod Answers
 pub mod Law
+pub mod Refused
 pub mod Texts

@@ -123,9 +123,9 @@ abbrev pub NoticesStay : Type 0
 NoticesStay = (n : ℕ) (old new : Labels) → Grows n old new → (rules : List Rule) (c : ℕ) → c ≤ n →
     notices new rules c ≡ notices old rules c
 
--- Two answers that tell the same are the same.
+-- Two answers of one kind that have the same number, or the same word, are the same; two standings, if they have the same date too.
 abbrev pub AnswersDiffer : Type 0
 AnswersDiffer =
-    ((x y : Verdict) → of_verdict x ≡ of_verdict y → x ≡ y) ×
-    ((x y : Standing) → of_standing x ≡ of_standing y → x ≡ y) ×
-    ((x y : Event) → of_event x ≡ of_event y → x ≡ y)
+    ((x y : Verdict) → ((of_verdict x).number ≡ (of_verdict y).number) ⊎ ((of_verdict x).word ≡ (of_verdict y).word) → x ≡ y) ×
+    ((x y : Standing) → ((of_standing x).number ≡ (of_standing y).number) ⊎ ((of_standing x).word ≡ (of_standing y).word) → (of_standing x).date ≡ (of_standing y).date → x ≡ y) ×
+    ((x y : Event) → ((of_event x).number ≡ (of_event y).number) ⊎ ((of_event x).word ≡ (of_event y).word) → x ≡ y)

@@ -1,3 +1,4 @@
 pub mod Expectations
 pub mod Words
+pub mod Story
 pub mod Laws

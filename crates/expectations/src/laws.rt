@@ -1,5 +1,6 @@
 // The laws of expectations. Each function is there for its contract, which says the law.
 ghost use Rattle.expectations.specs.Laws.{StandingsMean, DecisionsLast, TalliesSum, HappensOnce, HasOneDate, NoticesInOrder, VerdictsStay, StandingsStay, NoticesStay, AnswersDiffer};
+ghost use Rattle.expectations.specs.Story.{SlotStory};
 
 // A standing is exactly what is so.
 pub(crate) fn standings_mean()
@@ -46,7 +47,12 @@ pub(crate) fn notices_stay()
     ensures { NoticesStay }
 {}
 
-// Two answers that tell the same are the same.
+// Numbers and words tell answers apart.
 pub(crate) fn answers_differ()
     ensures { AnswersDiffer }
+{}
+
+// A story worked out by hand comes out so.
+pub(crate) fn slot_story()
+    ensures { SlotStory }
 {}

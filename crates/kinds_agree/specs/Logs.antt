@@ -5,12 +5,10 @@ use Rattle.logic.specs.declared.types.Formula.TheVariants.{True, Signal, Nominal
 use Rattle.logic.specs.declared.types.Reference.{Reference}
 use Rattle.logic.specs.declared.types.Rule.{Rule}
 use Rattle.logic.specs.declared.types.State.{State}
+use Rattle.logic.specs.States.{no_reference}
 use Rattle.table.specs.Tables.{formulas_of, rules_of}
 use Rattle.table.specs.declared.defects.Defect.{Defect}
 use Rattle.table.specs.declared.finished.Table.{Table}
-
-abbrev pub no_reference : Reference
-no_reference = record { kind = 0; target = 0 }
 
 -- none, two of kind 1, and one of kind 2
 abbrev pub referring : (digit : ℕ) → Reference

@@ -67,7 +67,7 @@ unfolding labels_of label until_from true_from false_from tree tree_to loose
 taken_told = refl
 
 pub as_expected : (G : Ground) (start : List State) (calls : List Call) (answers : List (Result Answer Refusal)) (ends : List State) →
-    G ≡ slots → start ≡ [] → calls ≡ slot_calls → length answers ≡ 11 → Ran G start calls answers ends →
+    G ≡ slots → start ≡ [] → calls ≡ slot_calls → length answers ≡ 15 → Ran G start calls answers ends →
     (answers ≡ slot_answers) × (ends ≡ double_free_log)
 as_expected G start calls answers ends is-slots empty same long ran =
     let law : Ran slots [] slot_calls answers ends =

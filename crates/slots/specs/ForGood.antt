@@ -1,11 +1,12 @@
 -- What a monitor answers about the log of a double free, and what that says of every log that goes on from it.
-use Rattle.std.specs.Prelude.{ℕ, ◌<◌, List, [], ◌∷◌, Ok, Result}
+use Rattle.std.specs.Prelude.{ℕ, ◌<◌, List, [], ◌∷◌, Some, None, Ok, Result}
 use Rattle.answers.specs.declared.types.Answer.{Answer}
-use Rattle.answers.specs.declared.types.Answer.TheVariants.{Number, Reads, Stands}
+use Rattle.answers.specs.declared.types.Answer.TheVariants.{Number, Reads, Stands, Counts, Tells}
 use Rattle.answers.specs.declared.types.Call.{Call}
-use Rattle.answers.specs.declared.types.Call.TheVariants.{Append, LabelAt, StandingAt}
+use Rattle.answers.specs.declared.types.Call.TheVariants.{Append, LabelAt, StandingAt, TallyOf, NoticeOf}
 use Rattle.expectations.specs.declared.types.Standing.TheVariants.{Violated}
 use Rattle.expectations.specs.declared.types.Verdict.TheVariants as is
+use Rattle.expectations.specs.declared.types.Event.TheVariants.{Raising, Violating}
 use Rattle.logic.specs.Lawful.{Lawful}
 use Rattle.logic.specs.Logic.{Tree, signal, not', next, until, Shows, Holds}
 use Rattle.logic.specs.States.{Trace, Begins}
@@ -13,17 +14,22 @@ use Rattle.refusals.specs.declared.Refusal.{Refusal}
 use Rattle.slots.specs.Slots.{shown, double_free_log}
 
 -- the six states of the log are appended; then the label of the rule's content is asked, at state 1 as point 2 reads it and at
--- state 3 as point 4 does; then the standing of the expectation of state 3 at points 4, 5 and 6
+-- state 3 as point 4 does; then the rule's tally, and the notices of point 4 until there is none; then the standing of the
+-- expectation of state 3 at points 4, 5 and 6
 abbrev pub slot_calls : List Call
 slot_calls =
     Append (shown 0) ∷ Append (shown 1) ∷ Append (shown 0) ∷ Append (shown 0) ∷ Append (shown 1) ∷ Append (shown 0)
-    ∷ LabelAt 4 1 2 ∷ LabelAt 4 3 4 ∷ StandingAt 0 3 4 ∷ StandingAt 0 3 5 ∷ StandingAt 0 3 6 ∷ []
+    ∷ LabelAt 4 1 2 ∷ LabelAt 4 3 4 ∷ TallyOf 0 ∷ NoticeOf 4 0 ∷ NoticeOf 4 1 ∷ NoticeOf 4 2
+    ∷ StandingAt 0 3 4 ∷ StandingAt 0 3 5 ∷ StandingAt 0 3 6 ∷ []
 
--- the slot of state 1 is freed at state 2, and that of state 3 is taken again at state 4, which nothing later changes
+-- the slot of state 1 is freed at state 2, and that of state 3 is taken again at state 4, which nothing later changes; of four
+-- expectations two are fulfilled, one is violated and one open
 abbrev pub slot_answers : List (Result Answer Refusal)
 slot_answers =
     Ok (Number 1) ∷ Ok (Number 2) ∷ Ok (Number 3) ∷ Ok (Number 4) ∷ Ok (Number 5) ∷ Ok (Number 6)
-    ∷ Ok (Reads is.True) ∷ Ok (Reads is.False) ∷ Ok (Stands (Violated 4)) ∷ Ok (Stands (Violated 4)) ∷ Ok (Stands (Violated 4)) ∷ []
+    ∷ Ok (Reads is.True) ∷ Ok (Reads is.False) ∷ Ok (Counts (record { raised = 4; pending = 1; fulfilled = 2; violated = 1 }))
+    ∷ Ok (Tells (Some (record { rule = 0; from = 3; event = Violating }))) ∷ Ok (Tells (Some (record { rule = 0; from = 4; event = Raising }))) ∷ Ok (Tells None)
+    ∷ Ok (Stands (Violated 4)) ∷ Ok (Stands (Violated 4)) ∷ Ok (Stands (Violated 4)) ∷ []
 
 -- the content of the slot's rule
 abbrev pub slot_content : Tree

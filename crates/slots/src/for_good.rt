@@ -12,7 +12,7 @@ use refusals::Refusal;
 use runs::run::run;
 use table::defects::Defect;
 
-const CALLS: usize = 11;
+const CALLS: usize = 15;
 
 // The labels of the table's five formulas at the six states of the log.
 const CELLS: usize = 30;
@@ -31,6 +31,10 @@ fn calls() -> [Call; CALLS]
         Call::Append(f),
         Call::LabelAt(CONTENT, 1, 2),
         Call::LabelAt(CONTENT, 3, 4),
+        Call::TallyOf(RULE),
+        Call::NoticeOf(4, 0),
+        Call::NoticeOf(4, 1),
+        Call::NoticeOf(4, 2),
         Call::StandingAt(RULE, 3, 4),
         Call::StandingAt(RULE, 3, 5),
         Call::StandingAt(RULE, 3, 6),

@@ -1,2 +1,3 @@
 pub mod Tests
 pub mod Right
+pub mod Endless

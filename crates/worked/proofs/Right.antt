@@ -10,7 +10,7 @@ use Rattle.logic.specs.declared.types.Formula.{Formula}
 use Rattle.logic.specs.States.{Trace, state_at}
 use Rattle.logic.specs.Logic.{Tree, Reads, strong}
 use Rattle.logic.specs.Lawful.{LawfulRecord}
-use Rattle.logic.specs.Tables.{OrderlyTable, tree_to, tree}
+use Rattle.logic.specs.Tables.{OrderlyTable, tree_to, tree, loose}
 use Rattle.labels.specs.Dated.{dated}
 use Rattle.dating.specs.Dated.{true_from, false_from, seen}
 use Rattle.dating.specs.Labels.{until_from, since_to, at_nominal, label}
@@ -73,7 +73,7 @@ label_of table xs f i = label (state_at xs) (length xs) 0 i (tree table f)
 -- ── Labels ──
 abbrev right_label : Labelled → Bool
 right_label k =
-    sound k.table k.states k.formula
+    (sound k.table k.states k.formula && same false (loose k.table k.formula))
     && ((leb 1 k.state && leb k.state (length k.states))
     && (le_z (label_of k.table k.states k.formula k.state) k.expected && le_z k.expected (label_of k.table k.states k.formula k.state)))
 
@@ -82,10 +82,11 @@ unfolding label_of
 label_by k h =
     let xs : List State = k.states in
     let z : ℤ = label_of k.table xs k.formula k.state in
-    let p = and_parts (sound k.table xs k.formula) ((leb 1 k.state && leb k.state (length xs)) && (le_z z k.expected && le_z k.expected z)) h in
+    let p = and_parts (sound k.table xs k.formula && same false (loose k.table k.formula)) ((leb 1 k.state && leb k.state (length xs)) && (le_z z k.expected && le_z k.expected z)) h in
     let q = and_parts (leb 1 k.state && leb k.state (length xs)) (le_z z k.expected && le_z k.expected z) p.1 in
     let w = and_parts (leb 1 k.state) (leb k.state (length xs)) q.0 in
-    let ok = sound_by k.table xs k.formula p.0 in
+    let l = and_parts (sound k.table xs k.formula) (same false (loose k.table k.formula)) p.0 in
+    let ok = sound_by k.table xs k.formula l.0 in
     let e : z ≡ k.expected = equal_by z k.expected q.1 in
     let low : 1 ≤ k.state = leb-true 1 k.state w.0 in
     let top : k.state ≤ length xs = leb-true k.state (length xs) w.1 in
@@ -93,6 +94,7 @@ label_by k h =
       lawful = ok.lawful;
       orderly = ok.orderly;
       formula_there = ok.there;
+      closed = sym (same_by false (loose k.table k.formula) l.1);
       state_there = (low, top);
       readings = λ r c c1 c256.
           subst (λ (y : ℤ). Decides (dated y r c) (Reads r (state_at xs) (min c (length xs)) 0 k.state (tree k.table k.formula))) e
@@ -152,7 +154,7 @@ refusal_by k h =
     }
 
 pub worked_examples_lem : WorkedExamples
-unfolding same label_of tree_to tree true_from false_from seen until_from since_to at_nominal label
+unfolding same label_of tree_to tree loose true_from false_from seen until_from since_to at_nominal label
 worked_examples_lem = record {
   right_labels = each_by right_label RightLabel label_by labels refl;
   right_raisings = each_by right_raising RightRaising raising_by raisings refl;
@@ -160,7 +162,7 @@ worked_examples_lem = record {
 }
 
 pub further_examples_lem : FurtherExamples
-unfolding same label_of tree_to tree true_from false_from seen until_from since_to at_nominal label
+unfolding same label_of tree_to tree loose true_from false_from seen until_from since_to at_nominal label
 further_examples_lem = record {
   right_labels = each_by right_label RightLabel label_by further_labels refl;
   right_refusals = each_by right_refusal RightRefusal refusal_by further_offers refl;

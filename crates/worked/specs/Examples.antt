@@ -65,13 +65,34 @@ before_the_first = record {
   expected = minus 256;
 }
 
--- `some 2 true` at state 3: false without a reference, true with one of kind 2.
+-- `previous signal 0`, with signal 0 on in state 1 only: it looks at the state just before, and no further.
+abbrev pub previous_signal : (state : ℕ) → (expected : ℤ) → Labelled
+previous_signal i z = record {
+  table = Signal 0 ∷ Previous 0 ∷ [];
+  states = plain 1 ∷ plain 0 ∷ plain 0 ∷ [];
+  formula = 1;
+  state = i;
+  expected = z;
+}
+
+-- `some 2 true` at state 3: false without a reference and with one of another kind, true with one of kind 2, first or second.
 abbrev pub some_reference : (third : State) → (expected : ℤ) → Labelled
 some_reference q z = record {
   table = True ∷ Some 2 0 ∷ [];
   states = plain 0 ∷ plain 0 ∷ q ∷ [];
   formula = 1;
   state = 3;
+  expected = z;
+}
+
+-- A state has 32 signals, and signal b is bit b of their number: with signal 31 on and no other, `signal 31` holds and `signal 30`
+-- does not.
+abbrev pub highest_signal : (signal : ℕ) → (expected : ℤ) → Labelled
+highest_signal b z = record {
+  table = Signal b ∷ [];
+  states = plain 2147483648 ∷ [];
+  formula = 0;
+  state = 1;
   expected = z;
 }
 
@@ -83,6 +104,16 @@ another_before i z = record {
   formula = 3;
   state = i;
   expected = z;
+}
+
+-- `bind next variable`: the next state is not the one that is bound.
+abbrev pub bound_next : Labelled
+bound_next = record {
+  table = Variable ∷ Next 0 ∷ Bind 1 ∷ [];
+  states = plain 0 ∷ plain 0 ∷ [];
+  formula = 2;
+  state = 1;
+  expected = minus 255;
 }
 
 -- A log with a rule: when signal 0 is on (formula 0), signal 1 is expected at the next state (formula 2).
@@ -170,7 +201,7 @@ not_ahead i z = record {
 abbrev pub carrying : (state : ℕ) → (expected : ℤ) → Labelled
 carrying i z = record {
   table = Nominal 7 ∷ [];
-  states = plain 0 ∷ called 0 7 ∷ [];
+  states = plain 0 ∷ called 0 7 ∷ plain 0 ∷ [];
   formula = 0;
   state = i;
   expected = z;
@@ -187,7 +218,7 @@ named_state f i z = record {
 }
 
 -- `bind next (true until reference 1)`: a later state refers to this one. State 3 refers to state 1; nobody does to state 2 yet.
--- A second reference serves as well as a first one.
+-- A second reference serves as well as a first one, and one of another kind or to another state does not.
 abbrev pub referred_to : (third : State) → (state : ℕ) → (expected : ℤ) → Labelled
 referred_to q i z = record {
   table = Refers 1 ∷ True ∷ Until 1 0 ∷ Next 2 ∷ Bind 3 ∷ [];
@@ -218,6 +249,20 @@ refers_to_signal i z = record {
   expected = z;
 }
 
+-- The same where state 3 has two references of kind 1, to state 2 and to state 1: one of them serves.
+abbrev pub refers_to_either : Labelled
+refers_to_either = record {
+  table = Signal 0 ∷ Variable ∷ And 0 1 ∷ True ∷ Since 3 2 ∷ Some 1 4 ∷ [];
+  states =
+      plain 1
+      ∷ plain 0
+      ∷ record { signals = 0; nominal = 0; first = record { kind = 1; target = 2 }; second = record { kind = 1; target = 1 } }
+      ∷ [];
+  formula = 5;
+  state = 3;
+  expected = pos 254;
+}
+
 abbrev pub labels : List Labelled
 labels =
     two_ahead
@@ -239,11 +284,15 @@ further_labels =
     ∷ since_ahead 1 (minus 255) ∷ since_ahead 2 (pos 254) ∷ since_ahead 3 (pos 254)
     ∷ since_never 1 (minus 256) ∷ since_never 2 (minus 255)
     ∷ not_ahead 1 (minus 255) ∷ not_ahead 2 (pos 0)
-    ∷ carrying 1 (minus 256) ∷ carrying 2 (pos 255)
+    ∷ carrying 1 (minus 256) ∷ carrying 2 (pos 255) ∷ carrying 3 (minus 254)
     ∷ named_state 1 1 (pos 256) ∷ named_state 1 2 (pos 255) ∷ named_state 2 1 (pos 0)
     ∷ referred_to (referring 1 1) 1 (pos 254) ∷ referred_to (referring 1 1) 2 (pos 0) ∷ referred_to (referring 1 1) 3 (pos 0)
     ∷ referred_to (referring_second 1 1) 1 (pos 254)
     ∷ refers_to_signal 3 (pos 254) ∷ refers_to_signal 4 (minus 253) ∷ refers_with_signal
+    ∷ some_reference (referring 1 1) (minus 254) ∷ some_reference (referring_second 2 1) (pos 254)
+    ∷ previous_signal 1 (minus 256) ∷ previous_signal 2 (pos 255) ∷ previous_signal 3 (minus 254) ∷ bound_next
+    ∷ referred_to (referring 1 2) 1 (pos 0) ∷ referred_to (referring 2 1) 1 (pos 0) ∷ refers_to_either
+    ∷ highest_signal 31 (pos 256) ∷ highest_signal 30 (minus 256)
     ∷ []
 
 -- ── Raisings: at which states a condition raises an expectation ──
@@ -277,7 +326,7 @@ pub record Offered : Type 0 where
   pub nominal_taken : Bool
   pub reference_unfit : Bool
 
--- A reference of state 2 to itself is unfit, one to state 1 is not.
+-- A reference of state 2 to itself or to a later state is unfit, one to state 1 is not.
 abbrev pub second_refers : (target : ℕ) → (unfit : Bool) → Offered
 second_refers t unfit = record {
   states = plain 0 ∷ referring 1 t ∷ [];
@@ -312,5 +361,6 @@ offers = second_refers 2 true ∷ second_refers 1 false ∷ []
 abbrev pub further_offers : List Offered
 further_offers =
     second_of_kind 15 1 false ∷ second_of_kind 16 1 true ∷ second_of_kind 0 1 true ∷ second_of_kind 1 0 true ∷ second_of_kind 1 2 true
+    ∷ second_refers 3 true
     ∷ third_called 7 true ∷ third_called 8 false ∷ third_called 0 false
     ∷ []

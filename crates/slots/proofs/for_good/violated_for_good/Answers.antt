@@ -9,7 +9,7 @@ returns c =
     let calls = c.calls.ensures in
     let run = c.run.ensures in
     let slots = slots_are _ _ _ table.0 table.1 new.room in
-    let long : length c.run.new.answers ≡ 11 = omega arith in
+    let long : length c.run.new.answers ≡ 15 = omega arith in
     let said = as_expected _ _ _ _ _ slots new.empty calls long (run.ran (omega (arith, ap length calls))) in
     let none = ap length new.empty in
     record {
