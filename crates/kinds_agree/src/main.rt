@@ -20,7 +20,8 @@ use table::finished::Table;
 // of the last state or with none.
 const LOGS: usize = 1024;
 
-// How many of the logs have labels in both kinds that tell the same. A table with at most 32 formulas takes at most 96 cells.
+// How many of the logs have labels in both kinds that tell the same. A table with at most 32 formulas takes at most 96 cells. A
+// loop, since `count` after a `filter` tells too little of the logs that pass.
 fn count_agreeing(table: &Table) -> usize
     ensures most { result ≤ 1024 }
     ensures each { result ≡ 1024 → (k : ℕ) → k < 1024 → KindsAgreed (formulas_of table.now.draft) (numbered k) }
