@@ -4,6 +4,7 @@
 mod ends;
 pub mod lines;
 mod points;
+pub mod program;
 mod steps;
 pub mod watch;
 mod watcher;
