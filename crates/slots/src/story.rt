@@ -12,7 +12,7 @@ use records::growing::Growing;
 use records::readable::Readable;
 use table::finished::Table;
 
-// At a truncation point one rule tells at most one raising, of the point's own state, and one decision of each state.
+// Of one rule a truncation point tells at most a raising, of its own state, and a decision of each state up to it.
 const MOST_NOTICES: usize = MOST_STATES + 1;
 
 fn print_notices<R: Growing>(
