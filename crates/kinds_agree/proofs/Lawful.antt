@@ -2,9 +2,9 @@
 use Rattle.std.proofs.Common.{◌≡◌, ℕ, zero, suc, ◌/◌, ◌%◌, ◌<◌, ◌≤◌, cond, ◌==◌, List, length, refl, sym, ◌∙◌, ⊎_elim, arith}
 use Rattle.std.proofs.lemmas.Bool.Decides.{nat_tests}
 use Rattle.logic.specs.declared.types.Formula.{Formula}
-use Rattle.logic.specs.States.{state_at}
+use Rattle.logic.specs.States.{no_reference, state_at}
 use Rattle.logic.specs.Lawful.{NominalTaken, Unfit, ReferenceUnfit}
-use Rattle.kinds_agree.specs.Logs.{no_reference, referring, numbered}
+use Rattle.kinds_agree.specs.Logs.{referring, numbered}
 use Rattle.kinds_agree.specs.Sames.{Labellable}
 
 -- the nominal of state i, where this digit names the state that has it
