@@ -6,3 +6,4 @@ pub mod Order
 pub mod Once
 pub mod Standings
 pub mod Stays
+pub mod Counted

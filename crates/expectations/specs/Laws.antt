@@ -118,6 +118,12 @@ abbrev pub StandingsStay : Type 0
 StandingsStay = (n : ℕ) (old new : Labels) → Grows n old new → (r : Rule) (s c : ℕ) → 1 ≤ s → s ≤ c → c ≤ n →
     standing new r s c ≡ standing old r s c
 
+-- What is decided at a point is decided so at every later one, also when a state is added.
+abbrev pub DecisionsStay : Type 0
+DecisionsStay = (n : ℕ) (old new : Labels) → Grows n old new → (c e : ℕ) → c ≤ n → c ≤ e →
+    ((f i : ℕ) → 1 ≤ i → i ≤ n → (verdict (old f i) c ≢ is.Unknown) → verdict (new f i) e ≡ verdict (old f i) c) ×
+    ((r : Rule) (s : ℕ) → 1 ≤ s → s ≤ c → (standing old r s c ≢ Pending) → standing new r s e ≡ standing old r s c)
+
 -- When a state is added, the notices of the points before it are the same.
 abbrev pub NoticesStay : Type 0
 NoticesStay = (n : ℕ) (old new : Labels) → Grows n old new → (rules : List Rule) (c : ℕ) → c ≤ n →

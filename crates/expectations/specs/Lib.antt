@@ -2,3 +2,5 @@ pub mod Expectations
 pub mod Words
 pub mod Story
 pub mod Laws
+pub mod Told
+pub mod Counted

@@ -1,5 +1,6 @@
 // The laws of expectations. Each function is there for its contract, which says the law.
-ghost use Rattle.expectations.specs.Laws.{StandingsMean, DecisionsLast, TalliesSum, HappensOnce, HasOneDate, NoticesInOrder, VerdictsStay, StandingsStay, NoticesStay, AnswersDiffer};
+ghost use Rattle.expectations.specs.Laws.{StandingsMean, DecisionsLast, TalliesSum, HappensOnce, HasOneDate, NoticesInOrder, VerdictsStay, StandingsStay, DecisionsStay, NoticesStay, AnswersDiffer};
+ghost use Rattle.expectations.specs.Counted.{ToldHappens, ToldAtOnePoint, TalliesTold, TalliesGrow};
 ghost use Rattle.expectations.specs.Story.{SlotStory};
 
 // A standing is exactly what is so.
@@ -42,9 +43,34 @@ pub(crate) fn standings_stay()
     ensures { StandingsStay }
 {}
 
+// What is decided is decided so at every later point, also when a state is added.
+pub(crate) fn decisions_stay()
+    ensures { DecisionsStay }
+{}
+
 // Notices of earlier points stay when a state is added.
 pub(crate) fn notices_stay()
     ensures { NoticesStay }
+{}
+
+// What is told at a point happens there.
+pub(crate) fn told_happens()
+    ensures { ToldHappens }
+{}
+
+// A notice is told at one point only, and at one place there.
+pub(crate) fn told_at_one_point()
+    ensures { ToldAtOnePoint }
+{}
+
+// A rule's tally counts the notices that were told of it.
+pub(crate) fn tallies_told()
+    ensures { TalliesTold }
+{}
+
+// Raised, fulfilled and violated do not fall when a state is added.
+pub(crate) fn tallies_grow()
+    ensures { TalliesGrow }
 {}
 
 // Numbers and words tell answers apart.
