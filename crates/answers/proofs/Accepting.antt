@@ -10,7 +10,7 @@ use Rattle.answers.specs.Answers.{Ground, refusal_of, grown_by, after, accepted}
 use Rattle.answers.proofs.Tested.{takes_fit, takes_lawful}
 
 -- what holds of the states, and holds after an append that is taken, holds after one that may be refused
-grown_keeps : (P : List State → Type 0) (why : Option Refusal) (xs : List State) (x : State) → P xs → (why ≡ None → P (xs ++ x ∷ [])) → P (grown_by why xs x)
+pub grown_keeps : (P : List State → Type 0) (why : Option Refusal) (xs : List State) (x : State) → P xs → (why ≡ None → P (xs ++ x ∷ [])) → P (grown_by why xs x)
 grown_keeps P (Some r) xs x old new = old
 grown_keeps P None xs x old new = new refl
 

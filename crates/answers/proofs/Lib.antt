@@ -6,3 +6,4 @@ pub mod Deciding
 pub mod Telling
 pub mod Judging
 pub mod Queried
+pub mod Lasting

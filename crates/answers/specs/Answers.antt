@@ -65,6 +65,11 @@ abbrev pub outcome : {A : Type 0} → Option Refusal → A → Result A Refusal
 outcome (Some r) v = Err r
 outcome None v = Ok v
 
+-- an answer of one kind as the answer of a call; a refusal is the same
+abbrev pub as_answer : {A : Type 0} → (A → Answer) → Result A Refusal → Result Answer Refusal
+as_answer f (Ok v) = Ok (f v)
+as_answer f (Err r) = Err r
+
 -- the answer to a call after the accepted states xs, or its refusal
 abbrev pub told : Ground → List State → Call → Result Answer Refusal
 told G xs call = outcome (refusal_of G xs call) (answer G xs call)

@@ -1,5 +1,6 @@
 pub mod Tests
 pub mod Answers
 pub mod Law
+pub mod Lasting
 pub mod Refused
 pub mod Texts
