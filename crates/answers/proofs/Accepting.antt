@@ -37,6 +37,18 @@ pub accepted_small : (G : Ground) (xs : List State) (cs : List Call) → length 
 accepted_small G xs [] small = small
 accepted_small G xs (c ∷ cs) small = accepted_small G (after G xs c) cs (small_after G xs c small)
 
+pub roomy_after : (G : Ground) (xs : List State) (call : Call) → length xs ≤ G.capacity → length (after G xs call) ≤ G.capacity
+roomy_after G xs (Append x) fits =
+    grown_keeps (λ ys. length ys ≤ G.capacity) (refusal_of G xs (Append x)) xs x fits (λ e. omega (arith, length_push xs x, (takes_fit G xs x e).1))
+roomy_after G xs (LabelAt f i c) fits = fits
+roomy_after G xs (StandingAt r i c) fits = fits
+roomy_after G xs (TallyOf r) fits = fits
+roomy_after G xs (NoticeOf c k) fits = fits
+
+pub accepted_roomy : (G : Ground) (xs : List State) (cs : List Call) → length xs ≤ G.capacity → length (accepted G xs cs) ≤ G.capacity
+accepted_roomy G xs [] fits = fits
+accepted_roomy G xs (c ∷ cs) fits = accepted_roomy G (after G xs c) cs (roomy_after G xs c fits)
+
 pub nothing_lawful : LawfulRecord []
 nothing_lawful i one le = absurd (omega arith)
 

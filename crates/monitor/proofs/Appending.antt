@@ -71,11 +71,13 @@ appended_ok xs room x (Err e) ys h less = absurd (omega (arith, h.0))
 -- the record that an append leaves which no refusal fits
 pub grown : {U E : Type 0} (own : ℕ) (G : Ground) (xs ys : List State) (x : State) (r : Result U E) → refused_by own G xs (Append x) ≡ None
     → (own ≡ length xs → LawfulRecord xs) → Appended xs G.capacity x r ys
-    → (ys ≡ xs ++ x ∷ []) × (LawfulRecord ys × (length ys ≤ 256))
+    → (ys ≡ xs ++ x ∷ []) × (LawfulRecord ys × (length ys ≤ 256)) × (length ys ≤ G.capacity)
 grown own G xs ys x r free law h =
     let taken = takes own G xs x free in
     let fit = takes_fit G xs x taken in
-    let e : ys ≡ xs ++ x ∷ [] = appended_ok xs G.capacity x r ys h fit.1 in (
+    let e : ys ≡ xs ++ x ∷ [] = appended_ok xs G.capacity x r ys h fit.1 in
+    let long : length ys ≡ length xs + length (x ∷ []) = ap length e ∙ length-append xs (x ∷ []) in (
       e,
-      (subst LawfulRecord (sym e) (takes_lawful G xs x (law (own_count own G xs x free)) taken), omega (arith, ap length e ∙ length-append xs (x ∷ []), fit.0.0)),
+      (subst LawfulRecord (sym e) (takes_lawful G xs x (law (own_count own G xs x free)) taken), omega (arith, long, fit.0.0)),
+      omega (arith, long, fit.1),
     )

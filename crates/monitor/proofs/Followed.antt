@@ -13,20 +13,20 @@ use Rattle.labelling.proofs.Nodes.{row_below}
 use Rattle.growth.specs.Growth.{labels_of}
 use Rattle.growth.proofs.Growing.{cells_are_labels_lem}
 use Rattle.monitor.specs.declared.book.Book.{Book}
-use Rattle.monitor.specs.Book.{table_of, rules_in, cell_at, TalliesRight, Right}
+use Rattle.monitor.specs.Book.{formulas_in, rules_in, cell_at, TalliesRight, Right}
 use Rattle.monitor.proofs.Cells.{cell_of}
 
 abbrev pub dates : Dated → Bool → ℕ → Bool
 dates x = dated x.value
 
 -- a whole labelling with dated labels leaves the labels of the record
-module _ (xs : List State) (b : Book) (old oldWork newWork : List Dated) (done : Labelled dates 256 (table_of b) xs old oldWork b.cells newWork)
-    (counted : b.count ≡ length xs) (small : length xs ≤ 256) (wide : length (table_of b) * length xs ≤ length b.cells) where
-  in_cell : (f i : ℕ) → f < length (table_of b) → loose (table_of b) f ≡ false → 1 ≤ i → i ≤ length xs → cell_at b.cells (place (length xs) f i) ≡ labels_of (table_of b) xs f i
+module _ (xs : List State) (b : Book) (old oldWork newWork : List Dated) (done : Labelled dates 256 (formulas_in b) xs old oldWork b.cells newWork)
+    (counted : b.count ≡ length xs) (small : length xs ≤ 256) (wide : length (formulas_in b) * length xs ≤ length b.cells) where
+  in_cell : (f i : ℕ) → f < length (formulas_in b) → loose (formulas_in b) f ≡ false → 1 ≤ i → i ≤ length xs → cell_at b.cells (place (length xs) f i) ≡ labels_of (formulas_in b) xs f i
   in_cell f i less closed one le =
-      let fits : place (length xs) f i < length b.cells = omega (arith, row_below f (length (table_of b)) (length xs) less) in
-      let cell = cell_of b.cells (place (length xs) f i) (Means dates 256 xs 0 i (tree (table_of b) f)) fits (λ d. (done.labels f i less one le d).0 closed 0) in
-      sym cell.2 ∙ cells_are_labels_lem (table_of b) xs f i small done.lawful one le cell.0 cell.1
+      let fits : place (length xs) f i < length b.cells = omega (arith, row_below f (length (formulas_in b)) (length xs) less) in
+      let cell = cell_of b.cells (place (length xs) f i) (Means dates 256 xs 0 i (tree (formulas_in b) f)) fits (λ d. (done.labels f i less one le d).0 closed 0) in
+      sym cell.2 ∙ cells_are_labels_lem (formulas_in b) xs f i small done.lawful one le cell.0 cell.1
 
   pub right_after : TalliesRight b (length (rules_in b)) → Right xs b
   right_after tallies =

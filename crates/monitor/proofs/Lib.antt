@@ -6,3 +6,4 @@ pub mod Faithfuls
 pub mod Appending
 pub mod Followed
 pub mod Wholes
+pub mod Founding

@@ -15,8 +15,8 @@ use Rattle.growth.specs.Growth.{label_of_number, labels_of}
 use Rattle.answers.specs.Answers.{Ground}
 use Rattle.monitor.specs.declared.book.Book.{Book}
 
-abbrev pub table_of : Book → List Formula
-table_of b = formulas_of b.table.draft
+abbrev pub formulas_in : Book → List Formula
+formulas_in b = formulas_of b.table.draft
 
 abbrev pub rules_in : Book → List Rule
 rules_in b = rules_of b.table.draft
@@ -44,7 +44,7 @@ SameButTallies a b = (b.table ≡ a.table) × (b.count ≡ a.count) × (b.cells 
 -- the memory is right of the states xs: they are lawful, the cells hold their labels and the tallies count by them
 pub record Right (xs : List State) (b : Book) : Type 0 where
   pub lawful : LawfulRecord xs
-  pub labels : (f i : ℕ) → f < length (table_of b) → loose (table_of b) f ≡ false → 1 ≤ i → i ≤ length xs → held b f i ≡ labels_of (table_of b) xs f i
+  pub labels : (f i : ℕ) → f < length (formulas_in b) → loose (formulas_in b) f ≡ false → 1 ≤ i → i ≤ length xs → held b f i ≡ labels_of (formulas_in b) xs f i
   pub tallies : TalliesRight b (length (rules_in b))
 
 -- while the record's count is the monitor's, the memory is right of the record's states
@@ -56,5 +56,5 @@ abbrev pub ground : List Formula → List Rule → (capacity : ℕ) → Ground
 ground table rules n = record { trees = tree table; labelled = labels_of table; formulas = length table; loose = loose table; rules = rules; capacity = n }
 
 -- the ground of a monitor with this memory
-abbrev pub ground_of : Book → (capacity : ℕ) → Ground
-ground_of b n = ground (table_of b) (rules_in b) n
+abbrev pub ground_in : Book → (capacity : ℕ) → Ground
+ground_in b n = ground (formulas_in b) (rules_in b) n

@@ -1,16 +1,21 @@
 -- What whole labelling of a monitor's own record leaves.
-use Rattle.std.specs.Prelude.{◌≡◌, ℕ, Bool, List, length, Ok, Err, Result, ◌≢◌, slice_index_or}
+use Rattle.std.specs.Prelude.{◌≡◌, ℕ, ◌*◌, Bool, List, length, Ok, Err, Result, ◌≢◌, slice_index_or}
 use Rattle.logic.specs.declared.types.Formula.{Formula}
 use Rattle.logic.specs.declared.types.State.{State}
 use Rattle.labels.specs.Readings.{Reading}
 use Rattle.refusals.specs.declared.Refusal.{Refusal}
 use Rattle.refusals.specs.declared.Refusal.TheVariants as refusal
-use Rattle.labelling.specs.Whole.{place, Declined, Labelled}
+use Rattle.records.specs.declared.growing.Growing as growing
+use Rattle.records.specs.declared.readable.Readable as readable
+use Rattle.labelling.specs.Whole.{place, Short, Roomy, Declined, Labelled}
+use Rattle.table.specs.Tables.{formulas_of}
 use Rattle.expectations.specs.declared.types.Verdict.{Verdict}
 use Rattle.growth.specs.Laws.{read_as}
 use Rattle.answers.specs.declared.types.Call.TheVariants.{LabelAt}
 use Rattle.answers.specs.declared.types.Answer.TheVariants.{Reads}
 use Rattle.answers.specs.Answers.{Ground, told}
+use Rattle.monitor.specs.Live.{table_of, states_of, count_of}
+use Rattle.monitor.specs.declared.live.Monitor.{Monitor}
 
 -- why it is declined: the record's count is not the monitor's, or as whole labelling declines the record
 abbrev pub WholeDeclined : (own : ℕ) → List Formula → List State → (reach labels work : ℕ) → Refusal → Type 0
@@ -22,6 +27,17 @@ abbrev pub WholeAnswered : {K : Type 0} → (K → Reading) → (reach own : ℕ
 WholeAnswered reads reach own table xs old oldWork (Ok n) new newWork = (own ≡ length xs) × (n ≡ length xs) × Labelled reads reach table xs old oldWork new newWork
 WholeAnswered reads reach own table xs old oldWork (Err why) new newWork =
     WholeDeclined own table xs reach (length old) (length oldWork) why × (new ≡ old) × (newWork ≡ oldWork)
+
+module _ {R : Type 0} {G : growing.Ghosts R} {D : readable.Ghosts R} where
+  -- so the record of a monitor is labelled
+  abbrev pub RecordLabelled : {K : Type 0} → (K → Reading) → (reach : ℕ) → Monitor R G D → (old oldWork : List K) → Result ℕ Refusal → (new newWork : List K) → Type 0
+  RecordLabelled reads reach m old oldWork result new newWork =
+      WholeAnswered reads reach (count_of m) (formulas_of (table_of m).draft) (states_of m) old oldWork result new newWork
+
+  -- the kind is long enough for the states of its record, and memory of so many label cells and working cells for their labels
+  abbrev pub Suffices : (reach : ℕ) → Monitor R G D → (labels work : ℕ) → Type 0
+  Suffices reach m labels work =
+      Short (length (states_of m)) reach × Roomy (length (formulas_of (table_of m).draft) * length (states_of m)) labels work
 
 -- every verdict that a monitor gives is read in the cells too, at its point: true where both readings hold, false where
 -- neither does, unknown where only the weak one does

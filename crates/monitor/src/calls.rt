@@ -1,18 +1,18 @@
 // The calls of a monitor.
-ghost use Rattle.std.specs.Prelude.{◌≡◌, ℕ, ◌+◌, ◌<◌, ◌≤◌, true, false, ◌⊎◌, [], ◌∷◌, ◌++◌, length, is_ok, Some, None, MatchResult, ◌≢◌, slice_index_or};
-ghost use Rattle.std.specs.List.{slice_get};
+ghost use Rattle.std.specs.Prelude.{◌≡◌, ℕ, ◌+◌, ◌<◌, ◌≤◌, true, false, ◌⊎◌, length, is_ok, Some, None, Ok, MatchResult, ◌≢◌, slice_index_or};
 ghost use Rattle.logic.specs.Tables.{no_rule, loose as is_loose};
-ghost use Rattle.expectations.specs.Expectations.{verdict, standing as standing_of, tallied, notices};
 ghost use Rattle.refusals.specs.declared.Refusal.TheVariants.{ForeignRecord, NoSuchName, LooseFormula};
+ghost use Rattle.answers.specs.declared.types.Answer.TheVariants.{Number, Reads, Stands, Counts, Tells};
 ghost use Rattle.answers.specs.declared.types.Call.TheVariants.{Append, LabelAt, StandingAt, TallyOf, NoticeOf};
-ghost use Rattle.answers.specs.Answers.{refused_by, outcome};
-ghost use Rattle.growth.specs.Growth.{labels_of};
-ghost use Rattle.monitor.specs.Book.{ground_of, table_of, rules_in};
-ghost use Rattle.monitor.specs.Whole.{WholeAnswered, Agrees};
+ghost use Rattle.answers.specs.Answers.{as_answer, refused_by};
+ghost use Rattle.monitor.specs.Book.{formulas_in, rules_in};
+ghost use Rattle.monitor.specs.Live.{table_of, states_of, room_of, count_of, ground_of, Own, IsNew, unless_refused, reply_of, verdict_at, standing_at, tally_at, notice_at, states_after};
+ghost use Rattle.monitor.specs.Whole.{Suffices, RecordLabelled, Agrees};
 
 use crate::book::Book;
 use crate::live::Monitor;
 use crate::reading::Expectation;
+use answers::types::{Answer, Call};
 use expectations::reading::verdict_of;
 use expectations::types::{Notice, Standing, Tally, Verdict};
 use labelling::whole::label_whole;
@@ -38,8 +38,8 @@ fn within(i: usize, low: usize, high: usize, refusal: Refusal) -> Result<(), Ref
 impl Book {
     // Refuses a number that names no formula of the table, or a loose one.
     fn closed_formula(&self, formula: usize) -> Result<(), Refusal>
-        ensures { MatchResult result (λ _. (formula < length (table_of self.now)) × (is_loose (table_of self.now) formula ≡ false))
-            (λ why. ((why ≡ NoSuchName) × (length (table_of self.now) ≤ formula)) ⊎ ((why ≡ LooseFormula) × (formula < length (table_of self.now)) × (is_loose (table_of self.now) formula ≡ true))) }
+        ensures { MatchResult result (λ _. (formula < length (formulas_in self.now)) × (is_loose (formulas_in self.now) formula ≡ false))
+            (λ why. ((why ≡ NoSuchName) × (length (formulas_in self.now) ≤ formula)) ⊎ ((why ≡ LooseFormula) × (formula < length (formulas_in self.now)) × (is_loose (formulas_in self.now) formula ≡ true))) }
     {
         match self.table.loose().get(formula) {
             None => Err(Refusal::NoSuchName),
@@ -64,9 +64,7 @@ impl Book {
 impl<R: Growing> Monitor<R> {
     // A new monitor, which takes over a table and a record.
     pub fn new(table: Table, log: R) -> Monitor<R>
-        ensures table { result.book.table ≡ table }
-        ensures log { result.log ≡ log }
-        ensures fresh { result.book.count ≡ 0 }
+        ensures { IsNew table log result }
     {
         Monitor {
             book: Book::new(table),
@@ -76,8 +74,7 @@ impl<R: Growing> Monitor<R> {
 
     // How many states there are, if the record's count is the monitor's.
     fn own_count(&self) -> Result<usize, Refusal>
-        ensures { MatchResult result (λ n. (n ≡ length (R.Readable.states self.now.log)) × (self.now.book.count ≡ length (R.Readable.states self.now.log)))
-            (λ why. (why ≡ ForeignRecord) × (self.now.book.count ≢ length (R.Readable.states self.now.log))) }
+        ensures { MatchResult result (λ n. (n ≡ length (states_of self.now)) × Own self.now) (λ why. (why ≡ ForeignRecord) × (Own self.now → ⊥)) }
     {
         let n = self.log.count();
         if n == self.book.count {
@@ -89,7 +86,8 @@ impl<R: Growing> Monitor<R> {
 
     // The label of a formula at a state, as a truncation point reads it.
     pub fn label(&self, formula: usize, state: usize, point: usize) -> Result<Verdict, Refusal>
-        ensures { result ≡ outcome (refused_by self.now.book.count (ground_of self.now.book (R.Growing.room self.now.log)) (R.Readable.states self.now.log) (LabelAt formula state point)) (verdict (labels_of (table_of self.now.book) (R.Readable.states self.now.log) formula state) point) }
+        ensures is { result ≡ unless_refused self.now (LabelAt formula state point) (verdict_at self.now formula state point) }
+        ensures told { as_answer Reads result ≡ reply_of self.now (LabelAt formula state point) }
     {
         let n = self.own_count()?;
         self.book.closed_formula(formula)?;
@@ -100,7 +98,8 @@ impl<R: Growing> Monitor<R> {
 
     // What has become of the rule's expectation of a state, as a truncation point reads it.
     pub fn standing(&self, rule: usize, state: usize, point: usize) -> Result<Standing, Refusal>
-        ensures { result ≡ outcome (refused_by self.now.book.count (ground_of self.now.book (R.Growing.room self.now.log)) (R.Readable.states self.now.log) (StandingAt rule state point)) (standing_of (labels_of (table_of self.now.book) (R.Readable.states self.now.log)) (slice_index_or (rules_in self.now.book) rule no_rule) state point) }
+        ensures is { result ≡ unless_refused self.now (StandingAt rule state point) (standing_at self.now rule state point) }
+        ensures told { as_answer Stands result ≡ reply_of self.now (StandingAt rule state point) }
     {
         let n = self.own_count()?;
         let rule = self.book.rule(rule)?;
@@ -116,7 +115,8 @@ impl<R: Growing> Monitor<R> {
 
     // The tally of a rule, as the last accepted point reads it.
     pub fn tally(&self, rule: usize) -> Result<Tally, Refusal>
-        ensures { result ≡ outcome (refused_by self.now.book.count (ground_of self.now.book (R.Growing.room self.now.log)) (R.Readable.states self.now.log) (TallyOf rule)) (tallied (labels_of (table_of self.now.book) (R.Readable.states self.now.log)) (slice_index_or (rules_in self.now.book) rule no_rule) (length (R.Readable.states self.now.log)) (length (R.Readable.states self.now.log))) }
+        ensures is { result ≡ unless_refused self.now (TallyOf rule) (tally_at self.now rule) }
+        ensures told { as_answer Counts result ≡ reply_of self.now (TallyOf rule) }
     {
         self.own_count()?;
         self.book.rule(rule)?;
@@ -125,7 +125,8 @@ impl<R: Growing> Monitor<R> {
 
     // The notice of a truncation point with a number, counted from 0, or none.
     pub fn notice(&self, point: usize, k: usize) -> Result<Option<Notice>, Refusal>
-        ensures { result ≡ outcome (refused_by self.now.book.count (ground_of self.now.book (R.Growing.room self.now.log)) (R.Readable.states self.now.log) (NoticeOf point k)) (slice_get (notices (labels_of (table_of self.now.book) (R.Readable.states self.now.log)) (rules_in self.now.book) point) k) }
+        ensures is { result ≡ unless_refused self.now (NoticeOf point k) (notice_at self.now point k) }
+        ensures told { as_answer Tells result ≡ reply_of self.now (NoticeOf point k) }
     {
         let n = self.own_count()?;
         within(point, 1, n, Refusal::NoSuchPoint)?;
@@ -134,8 +135,8 @@ impl<R: Growing> Monitor<R> {
 
     // The refusal that fits an append first, if there is one.
     fn admit(&self, state: State) -> Result<(), Refusal>
-        ensures { MatchResult result (λ _. refused_by self.now.book.count (ground_of self.now.book (R.Growing.room self.now.log)) (R.Readable.states self.now.log) (Append state) ≡ None)
-            (λ why. refused_by self.now.book.count (ground_of self.now.book (R.Growing.room self.now.log)) (R.Readable.states self.now.log) (Append state) ≡ Some why) }
+        ensures { MatchResult result (λ _. refused_by (count_of self.now) (ground_of self.now) (states_of self.now) (Append state) ≡ None)
+            (λ why. refused_by (count_of self.now) (ground_of self.now) (states_of self.now) (Append state) ≡ Some why) }
     {
         let n = self.own_count()?;
         if n >= MOST_STATES {
@@ -147,16 +148,42 @@ impl<R: Growing> Monitor<R> {
         next_unlawful(&self.log, state)
     }
 
+    // What an append of a state would be answered: the number that it would get, or the refusal that fits first.
+    fn number_of(&self, state: State) -> Result<usize, Refusal>
+        ensures { as_answer Number result ≡ reply_of self.now (Append state) }
+    {
+        self.admit(state).and(Ok(self.book.count + 1))
+    }
+
+    // What a call would be answered now, without carrying it out.
+    pub fn ask(&self, call: Call) -> Result<Answer, Refusal>
+        ensures { result ≡ reply_of self.now call }
+    {
+        match call {
+            Call::Append(state) => self.number_of(state).map(Answer::Number),
+            Call::LabelAt(formula, state, point) => {
+                self.label(formula, state, point).map(Answer::Reads)
+            }
+            Call::StandingAt(rule, state, point) => {
+                self.standing(rule, state, point).map(Answer::Stands)
+            }
+            Call::TallyOf(rule) => self.tally(rule).map(Answer::Counts),
+            Call::NoticeOf(point, k) => self.notice(point, k).map(Answer::Tells),
+        }
+    }
+
     // Appends a state and answers its number: labels the record and counts the tallies again. A refusal changes nothing.
     // That the table and the record's room stay is said in two clauses, here and of each function that changes a monitor,
     // since the monitor is lent to each.
     pub fn append(&mut self, state: State) -> Result<usize, Refusal>
-        ensures told { result ≡ outcome (refused_by self.old.book.count (ground_of self.old.book (R.Growing.room self.old.log)) (R.Readable.states self.old.log) (Append state)) (length (R.Readable.states self.old.log) + 1) }
-        ensures states { is_ok result ≡ true → R.Readable.states self.new.log ≡ R.Readable.states self.old.log ++ state ∷ [] }
+        ensures is { result ≡ unless_refused self.old (Append state) (length (states_of self.old) + 1) }
+        ensures told { as_answer Number result ≡ reply_of self.old (Append state) }
+        ensures states { states_of self.new ≡ states_after self.old (Append state) }
         ensures same { is_ok result ≡ false → self.new ≡ self.old }
-        ensures table { self.new.book.table ≡ self.old.book.table }
-        ensures room { R.Growing.room self.new.log ≡ R.Growing.room self.old.log }
-        ensures counted { is_ok result ≡ true → self.new.book.count ≡ length (R.Readable.states self.new.log) }
+        ensures table { table_of self.new ≡ table_of self.old }
+        ensures room { room_of self.new ≡ room_of self.old }
+        ensures counted { is_ok result ≡ true → Own self.new }
+        ensures own { Own self.old → Own self.new }
     {
         self.admit(state)?;
         let _ = self.log.append(state);
@@ -171,8 +198,9 @@ impl<R: Growing> Monitor<R> {
         labels: &mut [K],
         work: &mut [K],
     ) -> Result<usize, Refusal>
-        ensures whole { WholeAnswered K.reads K.reach self.now.book.count (table_of self.now.book) (R.Readable.states self.now.log) labels.old work.old result labels.new work.new }
-        ensures agrees { is_ok result ≡ true → Agrees K.reads (ground_of self.now.book (R.Growing.room self.now.log)) (R.Readable.states self.now.log) labels.new }
+        ensures whole { RecordLabelled K.reads K.reach self.now labels.old work.old result labels.new work.new }
+        ensures enough { Own self.now → Suffices K.reach self.now (length labels.old) (length work.old) → result ≡ Ok (length (states_of self.now)) }
+        ensures agrees { is_ok result ≡ true → Agrees K.reads (ground_of self.now) (states_of self.now) labels.new }
     {
         self.own_count()?;
         label_whole(&self.book.table, &self.log, labels, work)

@@ -4,7 +4,7 @@ use Rattle.table.specs.declared.finished.Table.{Table}
 use Rattle.table.specs.Tables.{formulas_of}
 use Rattle.table.proofs.Orders.{in_order}
 use Rattle.labelling.specs.Whole.{Labelled}
-use Rattle.monitor.specs.Book.{table_of}
+use Rattle.monitor.specs.Book.{formulas_in}
 use Rattle.monitor.proofs.Followed.{dates, right_after, enough, not_declined}
 use Rattle.monitor.proofs.book.Book.follow.Goals as goal
 
@@ -15,10 +15,10 @@ returns-in-Ok-clause-right g c law small =
     let b = c.recount.new.self in
     let same = c.recount.ensures.same in
     let done = c.in-Ok.ensures in
-    let labelled : Labelled dates 256 (table_of b) xs old.cells old.work b.cells c.label_whole.new.work =
+    let labelled : Labelled dates 256 (formulas_in b) xs old.cells old.work b.cells c.label_whole.new.work =
     subst (λ (t : Table). Labelled dates 256 (formulas_of t.draft) xs old.cells old.work b.cells c.label_whole.new.work) (sym same.0)
     (subst (λ (ys : List Dated). Labelled dates 256 (formulas_of old.table.draft) xs old.cells old.work ys c.label_whole.new.work) (sym same.2) done.1) in
-    let p = enough (length (table_of b)) (length xs) (in_order b.table).few small in
+    let p = enough (length (formulas_in b)) (length xs) (in_order b.table).few small in
     right_after xs b old.cells old.work c.label_whole.new.work labelled (same.1 ∙ done.0) small (omega (arith, b.wide)) c.recount.ensures.right
 
 pub returns-in_default-clause-right : goal.returns-in_default-clause-right

@@ -1,0 +1,81 @@
+-- A live monitor, as clauses speak of it: what it stands on, the states of its record, and what it answers.
+use Rattle.std.specs.Prelude.{◌≡◌, ℕ, List, length, Option, Result, slice_index_or}
+use Rattle.std.specs.List.{slice_get}
+use Rattle.logic.specs.declared.types.State.{State}
+use Rattle.logic.specs.Tables.{no_rule}
+use Rattle.records.specs.declared.growing.Growing as growing
+use Rattle.records.specs.declared.readable.Readable as readable
+use Rattle.refusals.specs.declared.Refusal.{Refusal}
+use Rattle.table.specs.declared.finished.Table.{Table}
+use Rattle.expectations.specs.declared.types.Verdict.{Verdict}
+use Rattle.expectations.specs.declared.types.Standing.{Standing}
+use Rattle.expectations.specs.declared.types.Notice.{Notice}
+use Rattle.expectations.specs.declared.types.Tally.{Tally}
+use Rattle.expectations.specs.Expectations.{verdict, standing, tallied, notices}
+use Rattle.answers.specs.declared.types.Call.{Call}
+use Rattle.answers.specs.declared.types.Answer.{Answer}
+use Rattle.answers.specs.Answers.{Ground, answer, outcome, refused_by, grown_to}
+use Rattle.monitor.specs.Book.{ground_in}
+use Rattle.monitor.specs.declared.live.Monitor.{Monitor}
+
+module _ {R : Type 0} {G : growing.Ghosts R} {D : readable.Ghosts R} where
+  -- its table with the rules, and its record
+  abbrev pub table_of : Monitor R G D → Table
+  table_of m = m.book.table
+
+  abbrev pub log_of : Monitor R G D → R
+  log_of m = m.log
+
+  -- the states of its record, and for how many the record has room
+  abbrev pub states_of : Monitor R G D → List State
+  states_of m = D.states m.log
+
+  abbrev pub room_of : Monitor R G D → ℕ
+  room_of m = G.room m.log
+
+  -- how many states it has labelled
+  abbrev pub count_of : Monitor R G D → ℕ
+  count_of m = m.book.count
+
+  -- what its answers stand on
+  abbrev pub ground_of : Monitor R G D → Ground
+  ground_of m = ground_in m.book (G.room m.log)
+
+  -- its record is its own: it has labelled each of the record's states
+  abbrev pub Own : Monitor R G D → Type 0
+  Own m = count_of m ≡ length (states_of m)
+
+  -- it is new, over this table and this record: it has labelled no state
+  abbrev pub IsNew : Table → R → Monitor R G D → Type 0
+  IsNew table log m = (table_of m ≡ table) × (log_of m ≡ log) × (count_of m ≡ 0)
+
+  -- ── What it answers ──
+
+  -- v, or the refusal that fits the call first
+  abbrev pub unless_refused : {A : Type 0} → Monitor R G D → Call → A → Result A Refusal
+  unless_refused m call v = outcome (refused_by (count_of m) (ground_of m) (states_of m) call) v
+
+  -- the answer to a call
+  abbrev pub reply_of : Monitor R G D → Call → Result Answer Refusal
+  reply_of m call = unless_refused m call (answer (ground_of m) (states_of m) call)
+
+  -- the label of formula f at state i as point c reads it
+  abbrev pub verdict_at : Monitor R G D → (f i c : ℕ) → Verdict
+  verdict_at m f i c = verdict ((ground_of m).labelled (states_of m) f i) c
+
+  -- the standing of rule r's expectation of state i at point c
+  abbrev pub standing_at : Monitor R G D → (r i c : ℕ) → Standing
+  standing_at m r i c = standing ((ground_of m).labelled (states_of m)) (slice_index_or (ground_of m).rules r no_rule) i c
+
+  -- rule r's tally as the last point reads it
+  abbrev pub tally_at : Monitor R G D → (r : ℕ) → Tally
+  tally_at m r =
+      tallied ((ground_of m).labelled (states_of m)) (slice_index_or (ground_of m).rules r no_rule) (length (states_of m)) (length (states_of m))
+
+  -- the notice of point c with number k, if there is one
+  abbrev pub notice_at : Monitor R G D → (c k : ℕ) → Option Notice
+  notice_at m c k = slice_get (notices ((ground_of m).labelled (states_of m)) (ground_of m).rules c) k
+
+  -- the states of its record after a call that is carried out
+  abbrev pub states_after : Monitor R G D → Call → List State
+  states_after m call = grown_to (count_of m) (ground_of m) (states_of m) call
