@@ -86,6 +86,11 @@ after G xs (StandingAt r i c) = xs
 after G xs (TallyOf r) = xs
 after G xs (NoticeOf c k) = xs
 
+-- a call that asks, and appends nothing
+abbrev pub IsQuery : Call → Type 0
+IsQuery (Append x) = ⊥
+IsQuery _ = Unit {0}
+
 -- the states of the appends that no refusal fits, in order
 abbrev pub accepted : Ground → List State → List Call → List State
 accepted G xs [] = xs

@@ -7,3 +7,4 @@ pub mod Appending
 pub mod Followed
 pub mod Wholes
 pub mod Founding
+pub mod Keeping

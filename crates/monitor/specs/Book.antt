@@ -8,6 +8,7 @@ use Rattle.logic.specs.Lawful.{LawfulRecord}
 use Rattle.logic.specs.Tables.{no_rule, tree, loose}
 use Rattle.labels.specs.declared.dated.Dated.{Dated}
 use Rattle.table.specs.Tables.{formulas_of, rules_of}
+use Rattle.table.specs.declared.finished.Table.{Table}
 use Rattle.expectations.specs.declared.types.Label.{Label}
 use Rattle.expectations.specs.declared.types.Label.TheVariants.{Unknown}
 use Rattle.expectations.specs.Expectations.{Labels, no_tally, tallied}
@@ -55,6 +56,10 @@ Faithful xs b = b.count ≡ length xs → Right xs b
 abbrev pub ground : List Formula → List Rule → (capacity : ℕ) → Ground
 ground table rules n = record { trees = tree table; labelled = labels_of table; formulas = length table; loose = loose table; rules = rules; capacity = n }
 
+-- the ground of a monitor over this table
+abbrev pub ground_on : Table → (capacity : ℕ) → Ground
+ground_on t n = ground (formulas_of t.draft) (rules_of t.draft) n
+
 -- the ground of a monitor with this memory
 abbrev pub ground_in : Book → (capacity : ℕ) → Ground
-ground_in b n = ground (formulas_in b) (rules_in b) n
+ground_in b n = ground_on b.table n

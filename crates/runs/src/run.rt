@@ -1,11 +1,11 @@
-ghost use Rattle.std.specs.Prelude.{◌≡◌, ℕ, ◌<◌, ◌≤◌, true, [], length, drop, is_ok, Ok, Err, ◌≢◌};
+ghost use Rattle.std.specs.Prelude.{◌≡◌, ◌<◌, ◌≤◌, true, false, length, drop, is_ok, Ok, Err};
 ghost use Rattle.refusals.specs.declared.Refusal.TheVariants.{ForeignRecord, MemoryTooShort};
-ghost use Rattle.table.specs.Tables.{formulas_of, rules_of};
-ghost use Rattle.answers.specs.Answers.{replied};
-ghost use Rattle.answers.specs.Law.{Ran, Judged};
-ghost use Rattle.monitor.specs.Book.{ground, ground_of};
-ghost use Rattle.monitor.specs.Whole.{WholeAnswered, Agrees};
-ghost use Rattle.runs.specs.Meant.{grown_to, Meant, GoesOn};
+ghost use Rattle.answers.specs.Answers.{IsQuery};
+ghost use Rattle.answers.specs.Law.{Ran};
+ghost use Rattle.answers.specs.Lasting.{NeverTakenBack};
+ghost use Rattle.monitor.specs.Live.{table_of, states_of, room_of, count_of, ground_of, Own, IsNew, reply_of, states_after};
+ghost use Rattle.monitor.specs.Whole.{Suffices, RecordLabelled, Agrees};
+ghost use Rattle.runs.specs.Runs.{Enough, TooLittle, RanOn, MadeOver, FromEmpty};
 
 use answers::types::{Answer, Call};
 use labels::LabelKind;
@@ -15,25 +15,20 @@ use records::readable::Readable;
 use refusals::Refusal;
 use table::finished::Table;
 
-// One call of a monitor, with its answer.
+// One call of a monitor, with its answer. A refusal changes nothing, and nor does a query.
 pub fn reply<R: Growing>(monitor: &mut Monitor<R>, call: Call) -> Result<Answer, Refusal>
-    ensures told { result ≡ replied monitor.old.book.count (ground_of monitor.old.book (R.Growing.room monitor.old.log)) (R.Readable.states monitor.old.log) call }
-    ensures states { R.Readable.states monitor.new.log ≡ grown_to monitor.old.book.count (ground_of monitor.old.book (R.Growing.room monitor.old.log)) (R.Readable.states monitor.old.log) call }
-    ensures foreign { (monitor.old.book.count ≢ length (R.Readable.states monitor.old.log)) → monitor.new ≡ monitor.old }
-    ensures counted { monitor.old.book.count ≡ length (R.Readable.states monitor.old.log) → monitor.new.book.count ≡ length (R.Readable.states monitor.new.log) }
-    ensures table { monitor.new.book.table ≡ monitor.old.book.table }
-    ensures room { R.Growing.room monitor.new.log ≡ R.Growing.room monitor.old.log }
+    ensures told { result ≡ reply_of monitor.old call }
+    ensures states { states_of monitor.new ≡ states_after monitor.old call }
+    ensures refused { is_ok result ≡ false → monitor.new ≡ monitor.old }
+    ensures queries { IsQuery call → monitor.new ≡ monitor.old }
+    ensures foreign { (Own monitor.old → ⊥) → monitor.new ≡ monitor.old }
+    ensures own { Own monitor.old → Own monitor.new }
+    ensures table { table_of monitor.new ≡ table_of monitor.old }
+    ensures room { room_of monitor.new ≡ room_of monitor.old }
 {
     match call {
         Call::Append(state) => monitor.append(state).map(Answer::Number),
-        Call::LabelAt(formula, state, point) => monitor
-            .label(formula, state, point)
-            .map(Answer::Reads),
-        Call::StandingAt(rule, state, point) => monitor
-            .standing(rule, state, point)
-            .map(Answer::Stands),
-        Call::TallyOf(rule) => monitor.tally(rule).map(Answer::Counts),
-        Call::NoticeOf(point, k) => monitor.notice(point, k).map(Answer::Tells),
+        query => monitor.ask(query),
     }
 }
 
@@ -43,14 +38,14 @@ fn reply_all<R: Growing>(
     calls: &[Call],
     answers: &mut [Result<Answer, Refusal>],
 )
-    requires fresh { monitor.old.book.count ≡ 0 }
-    requires memory { length calls.now ≤ length answers.old }
-    ensures ran { Ran (ground_of monitor.old.book (R.Growing.room monitor.old.log)) (R.Readable.states monitor.old.log) calls.now answers.new (R.Readable.states monitor.new.log) }
+    requires fresh { count_of monitor.old ≡ 0 }
+    requires memory { Enough calls.now answers.old }
+    ensures ran { Ran (ground_of monitor.old) (states_of monitor.old) calls.now answers.new (states_of monitor.new) }
     ensures later { drop (length calls.now) answers.new ≡ drop (length calls.now) answers.old }
-    ensures foreign { 0 < length (R.Readable.states monitor.old.log) → monitor.new ≡ monitor.old }
-    ensures counted { length (R.Readable.states monitor.old.log) ≡ 0 → monitor.new.book.count ≡ length (R.Readable.states monitor.new.log) }
-    ensures table { monitor.new.book.table ≡ monitor.old.book.table }
-    ensures room { R.Growing.room monitor.new.log ≡ R.Growing.room monitor.old.log }
+    ensures foreign { 0 < length (states_of monitor.old) → monitor.new ≡ monitor.old }
+    ensures own { length (states_of monitor.old) ≡ 0 → Own monitor.new }
+    ensures table { table_of monitor.new ≡ table_of monitor.old }
+    ensures room { room_of monitor.new ≡ room_of monitor.old }
 {
     // By number, since of a slice that `iter_mut` lends to a `zip` a proof knows nothing afterwards.
     for (k, call) in calls.iter().enumerate() {
@@ -58,8 +53,46 @@ fn reply_all<R: Growing>(
     }
 }
 
-// What a list of calls on a new monitor leaves: the monitor, how many calls were answered, and how many states of its record
-// were then labelled whole.
+// What a list of calls on a new monitor leaves: the monitor, and how many calls were answered.
+#[derive(Drop)]
+pub struct Called<R: Growing> {
+    pub monitor: Monitor<R>,
+    pub answered: Result<usize, Refusal>,
+}
+
+// Carries out any list of calls on a new monitor over a table and a record, and writes their answers. Memory for fewer answers
+// than calls is refused, and nothing is called. It is lent, so that no allocation can fail in the middle.
+pub fn call_all<R: Growing>(
+    table: Table,
+    log: R,
+    calls: &[Call],
+    answers: &mut [Result<Answer, Refusal>],
+) -> Called<R>
+    ensures refused { TooLittle calls.now answers.old → (result.answered ≡ Err MemoryTooShort) × IsNew table log result.monitor }
+    ensures unused { TooLittle calls.now answers.old → answers.new ≡ answers.old }
+    ensures answered { Enough calls.now answers.old → result.answered ≡ Ok (length calls.now) }
+    ensures ran { Enough calls.now answers.old → RanOn table log calls.now answers.new result.monitor }
+    ensures for_good { Enough calls.now answers.old → NeverTakenBack calls.now answers.new }
+    ensures later { drop (length calls.now) answers.new ≡ drop (length calls.now) answers.old }
+    ensures made { MadeOver table log result.monitor }
+    ensures foreign { 0 < length (R.Readable.states log) → IsNew table log result.monitor }
+    ensures empty { length (R.Readable.states log) ≡ 0 → FromEmpty result.monitor }
+{
+    let mut monitor = Monitor::new(table, log);
+    if answers.len() < calls.len() {
+        return Called {
+            monitor,
+            answered: Err(Refusal::MemoryTooShort),
+        };
+    }
+    reply_all(&mut monitor, calls, answers);
+    Called {
+        monitor,
+        answered: Ok(calls.len()),
+    }
+}
+
+// What a list of calls on a new monitor leaves, and how many states of its record were then labelled whole.
 #[derive(Drop)]
 pub struct Outcome<R: Growing> {
     pub monitor: Monitor<R>,
@@ -67,9 +100,8 @@ pub struct Outcome<R: Growing> {
     pub labelled: Result<usize, Refusal>,
 }
 
-// Carries out any list of calls on a new monitor over a table and a record, writes their answers, and then labels the
-// record whole in any kind of label. Memory for fewer answers than calls is refused, and nothing is called. It is lent, so
-// that no allocation can fail in the middle.
+// Carries out any list of calls on a new monitor, as `call_all` does, and then labels the record whole in any kind of label.
+// Where the calls are refused, nothing is labelled.
 pub fn run<K: LabelKind + Copy, R: Growing>(
     table: Table,
     log: R,
@@ -78,30 +110,28 @@ pub fn run<K: LabelKind + Copy, R: Growing>(
     labels: &mut [K],
     work: &mut [K],
 ) -> Outcome<R>
-    ensures refused { length answers.old < length calls.now → (result.answered ≡ Err MemoryTooShort) × (result.labelled ≡ Err MemoryTooShort) × (result.monitor.log ≡ log) × (answers.new ≡ answers.old) × (labels.new ≡ labels.old) × (work.new ≡ work.old) }
-    ensures answered { length calls.now ≤ length answers.old → result.answered ≡ Ok (length calls.now) }
-    ensures ran { length calls.now ≤ length answers.old → Ran (ground (formulas_of table.draft) (rules_of table.draft) (R.Growing.room log)) (R.Readable.states log) calls.now answers.new (R.Readable.states result.monitor.log) }
+    ensures refused { TooLittle calls.now answers.old → (result.answered ≡ Err MemoryTooShort) × IsNew table log result.monitor }
+    ensures unused { TooLittle calls.now answers.old → answers.new ≡ answers.old }
+    ensures answered { Enough calls.now answers.old → result.answered ≡ Ok (length calls.now) }
+    ensures ran { Enough calls.now answers.old → RanOn table log calls.now answers.new result.monitor }
+    ensures for_good { Enough calls.now answers.old → NeverTakenBack calls.now answers.new }
     ensures later { drop (length calls.now) answers.new ≡ drop (length calls.now) answers.old }
-    ensures foreign { 0 < length (R.Readable.states log) → (result.monitor.log ≡ log) × (result.monitor.book.count ≡ 0) × (labels.new ≡ labels.old) × (work.new ≡ work.old) × (length calls.now ≤ length answers.old → result.labelled ≡ Err ForeignRecord) }
-    ensures judged { length (R.Readable.states log) ≡ 0 → Judged (ground (formulas_of table.draft) (rules_of table.draft) (R.Growing.room log)) (R.Readable.states result.monitor.log) }
-    ensures goes_on { length (R.Readable.states log) ≡ 0 → GoesOn (R.Readable.states result.monitor.log) }
-    ensures meant { length (R.Readable.states log) ≡ 0 → Meant (ground (formulas_of table.draft) (rules_of table.draft) (R.Growing.room log)) (R.Readable.states result.monitor.log) }
-    ensures whole { length (R.Readable.states log) ≡ 0 → length calls.now ≤ length answers.old → WholeAnswered K.reads K.reach (length (R.Readable.states result.monitor.log)) (formulas_of table.draft) (R.Readable.states result.monitor.log) labels.old work.old result.labelled labels.new work.new }
-    ensures agrees { length (R.Readable.states log) ≡ 0 → length calls.now ≤ length answers.old → is_ok result.labelled ≡ true → Agrees K.reads (ground (formulas_of table.draft) (rules_of table.draft) (R.Growing.room log)) (R.Readable.states result.monitor.log) labels.new }
+    ensures made { MadeOver table log result.monitor }
+    ensures foreign { 0 < length (R.Readable.states log) → IsNew table log result.monitor }
+    ensures empty { length (R.Readable.states log) ≡ 0 → FromEmpty result.monitor }
+    ensures unlabelled { TooLittle calls.now answers.old → (result.labelled ≡ Err MemoryTooShort) × (labels.new ≡ labels.old) × (work.new ≡ work.old) }
+    ensures whole { Enough calls.now answers.old → RecordLabelled K.reads K.reach result.monitor labels.old work.old result.labelled labels.new work.new }
+    ensures enough { Enough calls.now answers.old → Own result.monitor → Suffices K.reach result.monitor (length labels.old) (length work.old) → result.labelled ≡ Ok (length (states_of result.monitor)) }
+    ensures agrees { Enough calls.now answers.old → is_ok result.labelled ≡ true → Agrees K.reads (ground_of result.monitor) (states_of result.monitor) labels.new }
 {
-    let mut monitor = Monitor::new(table, log);
-    if answers.len() < calls.len() {
-        return Outcome {
-            monitor,
-            answered: Err(Refusal::MemoryTooShort),
-            labelled: Err(Refusal::MemoryTooShort),
-        };
-    }
-    reply_all(&mut monitor, calls, answers);
-    let labelled = monitor.label_record(labels, work);
+    let called = call_all(table, log, calls, answers);
+    let labelled = match called.answered {
+        Ok(_) => called.monitor.label_record(labels, work),
+        Err(refusal) => Err(refusal),
+    };
     Outcome {
-        monitor,
-        answered: Ok(calls.len()),
+        monitor: called.monitor,
+        answered: called.answered,
         labelled,
     }
 }

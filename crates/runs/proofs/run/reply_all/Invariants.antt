@@ -1,13 +1,15 @@
 use Rattle.std.proofs.Common.{◌≡◌, length, drop}
 use Rattle.answers.proofs.Stepping.{OwnSoFar, ForeignSoFar}
-use Rattle.monitor.specs.Book.{ground_of}
+use Rattle.monitor.specs.Live.{table_of, states_of, room_of, count_of, ground_of, Own}
 use Rattle.runs.proofs.run.reply_all.Given as goal
 
 abbrev pub invariant-loop-k : goal.invariant-loop-k
 invariant-loop-k g l =
-    (l.monitor.book.table ≡ l.initial.monitor.book.table)
-    × (g.R.Growing.room l.monitor.log ≡ g.R.Growing.room l.initial.monitor.log)
-    × (l.initial.monitor.book.count ≡ length (g.R.Readable.states l.initial.monitor.log) →
-    OwnSoFar (ground_of l.initial.monitor.book (g.R.Growing.room l.initial.monitor.log)) (g.R.Readable.states l.initial.monitor.log) l.calls l.k l.monitor.book.count (g.R.Readable.states l.monitor.log) l.answers)
-    × ((l.initial.monitor.book.count ≡ length (g.R.Readable.states l.initial.monitor.log) → ⊥) → (l.monitor ≡ l.initial.monitor) × ForeignSoFar l.k l.answers)
-    × (drop (length l.calls) l.answers ≡ drop (length l.calls) l.initial.answers)
+    let start = l.initial.monitor in
+    record {
+      table : table_of l.monitor ≡ table_of start;
+      room : room_of l.monitor ≡ room_of start;
+      own : Own start → OwnSoFar (ground_of start) (states_of start) l.calls l.k (count_of l.monitor) (states_of l.monitor) l.answers;
+      foreign : (Own start → ⊥) → (l.monitor ≡ start) × ForeignSoFar l.k l.answers;
+      later : drop (length l.calls) l.answers ≡ drop (length l.calls) l.initial.answers;
+    }
