@@ -14,5 +14,5 @@ put_wrote input bytes old new (Some m) n printed p is = written bytes printed p.
 
 pub returns-in-Ok : goal.returns-in-Ok
 returns-in-Ok c =
-    let printed : Printed c.args.input.now c.as_bytes.result.now = rw c.as_bytes.ensures.value c.in-Ok.ensures in
+    let printed : Printed c.args.input.now c.as_bytes.result.now = rw c.as_bytes.ensures.value c.in-Ok.ensures.printed in
     put_wrote c.args.input.now c.as_bytes.result.now c.args.output.now c.put.new.memory c.put.result c.unwrap_or.result printed c.put.ensures c.unwrap_or.ensures
