@@ -2,14 +2,14 @@ use Rattle.std.proofs.Common.{◌≡◌, ℕ, ◌<◌, ◌≤◌, List, length, 
 use Rattle.std.specs.Option.{unwrap_or}
 use Rattle.watch_lib.specs.Printed.{Printed}
 use Rattle.bench_calls.specs.Memory.{over}
-use Rattle.bench_calls.specs.Watching.{Wrote, written, nothing}
+use Rattle.bench_calls.specs.Watching.{Wrote, written, no_room}
 use Rattle.bench_calls.proofs.watching.bench_watch.Goals as goal
 
 -- bytes that are put, or not
 put_wrote : (input bytes old new : List ℕ) (put : Option ℕ) (n : ℕ) → Printed input bytes
     → MatchOption put ((length old < length bytes) × (new ≡ old)) (λ m. (length bytes ≤ length old) × (m ≡ length bytes) × (new ≡ over bytes old))
     → n ≡ unwrap_or put 18446744073709551615 → Wrote input old n new
-put_wrote input bytes old new None n printed p is = nothing is p.1
+put_wrote input bytes old new None n printed p is = no_room bytes printed p.0 is p.1
 put_wrote input bytes old new (Some m) n printed p is = written bytes printed p.0 (is ∙ p.1) p.2
 
 pub returns-in-Ok : goal.returns-in-Ok
