@@ -1,9 +1,6 @@
 // The line at the end of a log.
-ghost use Rattle.std.specs.Prelude.{◌≡◌, ◌<◌, length, slice_index_or};
-ghost use Rattle.logic.specs.Tables.{no_rule};
-ghost use Rattle.expectations.specs.Expectations.{tallied};
-ghost use Rattle.growth.specs.Growth.{labels_of};
-ghost use Rattle.monitor.specs.Live.{ground_of, record_labels, table_rules, rule_at, states_of, tally_at};
+ghost use Rattle.std.specs.Prelude.{◌≡◌, ◌<◌, length};
+ghost use Rattle.monitor.specs.Live.{ground_of, table_rules, states_of, tally_at};
 ghost use Rattle.watch_lib.specs.Sums.{plus as sum_of, Few};
 ghost use Rattle.watch_lib.specs.Watched.{closing_line};
 
@@ -32,7 +29,7 @@ impl<R: Growing> Watcher<R> {
     // The tally of a rule that is there.
     fn tally_of(&self, rule: usize) -> Tally
         requires { rule < length (table_rules self.now.monitor) }
-        ensures counts { result ≡ tallied (record_labels self.now.monitor) (rule_at self.now.monitor rule) (length (states_of self.now.monitor)) (length (states_of self.now.monitor)) }
+        ensures counts { result ≡ tally_at self.now.monitor rule }
         ensures few { Few 256 result }
     {
         // Never refused: the rule is there.

@@ -1,10 +1,8 @@
 // The notices of a truncation point.
-ghost use Rattle.std.specs.Prelude.{◌≡◌, ◌<◌, ◌≤◌, ◌++◌, map, length, OnOk, slice_index_or};
+ghost use Rattle.std.specs.Prelude.{◌≡◌, ◌<◌, ◌≤◌, ◌++◌, map, length, OnOk};
 ghost use Rattle.std.specs.List.{flat_map};
 ghost use Rattle.std.specs.Option.{option_to_list};
-ghost use Rattle.logic.specs.Tables.{no_rule};
-ghost use Rattle.expectations.specs.Expectations.{standing, of_state, from_state, notices};
-ghost use Rattle.growth.specs.Growth.{labels_of};
+ghost use Rattle.expectations.specs.Expectations.{of_state, from_state, notices};
 ghost use Rattle.monitor.specs.Live.{states_of, table_rules, rule_at, record_labels, standing_at};
 ghost use Rattle.watch_lib.specs.declared.lines.Line.TheVariants.{Told};
 
@@ -22,7 +20,7 @@ impl<R: Growing> Watcher<R> {
         requires from { 1 ≤ state }
         requires by { state ≤ point }
         requires to { point ≤ length (states_of self.now.monitor) }
-        ensures { result ≡ standing (record_labels self.now.monitor) (rule_at self.now.monitor rule) state point }
+        ensures { result ≡ standing_at self.now.monitor rule state point }
     {
         // Never refused: the rule is there, and the point was accepted.
         self.monitor

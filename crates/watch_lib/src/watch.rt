@@ -1,7 +1,7 @@
 // From an input to the lines of output.
 ghost use Rattle.std.specs.Prelude.{◌≡◌, ◌+◌, ◌≤◌, [], ◌∷◌, length, drop, IfOk};
 ghost use Rattle.table.specs.Tables.{formulas_of, rules_of};
-ghost use Rattle.watch_lib.specs.Laws.{Only};
+ghost use Rattle.watch_lib.specs.Laws.{GoesOn, Only};
 ghost use Rattle.monitor.specs.Book.{ground_on};
 ghost use Rattle.watch_lib.specs.Watched.{Traced, Watched};
 
@@ -60,10 +60,11 @@ fn watch_input(heap: Global, input: &[u8]) -> Result<Vec<Line>, AllocError>
 }
 
 // The lines that are printed of an input: a rules text and trace lines.
-#[tactic(auto, using(crate::proofs::Unique::one_output))]
+#[tactic(auto, using(crate::proofs::Unique::one_output, crate::proofs::GoingOn::goes_on_lem))]
 pub fn watch(heap: Global, input: &[u8]) -> Result<Vec<Line>, AllocError>
     ensures lines { IfOk result (λ v. Watched input.now v.items) }
     ensures only { IfOk result (λ v. Only input.now v.items) }
+    ensures goes_on { IfOk result (λ v. GoesOn input.now v.items) }
 {
     if input.len() > MOST_BYTES {
         return only(heap, Line::refused(Refusal::MemoryTooShort, 0));
