@@ -1,5 +1,5 @@
 // The calls of a monitor.
-ghost use Rattle.std.specs.Prelude.{◌≡◌, ℕ, ◌+◌, ◌<◌, ◌≤◌, true, false, ◌⊎◌, length, is_ok, Some, None, Ok, MatchResult, ◌≢◌, slice_index_or};
+ghost use Rattle.std.specs.Prelude.{◌≡◌, ℕ, ◌+◌, ◌<◌, ◌≤◌, true, false, ◌⊎◌, [], ◌∷◌, ◌++◌, length, is_ok, Some, None, Ok, MatchResult, ◌≢◌, slice_index_or};
 ghost use Rattle.logic.specs.Tables.{no_rule, loose as is_loose};
 ghost use Rattle.refusals.specs.declared.Refusal.TheVariants.{ForeignRecord, NoSuchName, LooseFormula};
 ghost use Rattle.answers.specs.declared.types.Answer.TheVariants.{Number, Reads, Stands, Counts, Tells};
@@ -178,6 +178,7 @@ impl<R: Growing> Monitor<R> {
     pub fn append(&mut self, state: State) -> Result<usize, Refusal>
         ensures is { result ≡ unless_refused self.old (Append state) (length (states_of self.old) + 1) }
         ensures told { as_answer Number result ≡ reply_of self.old (Append state) }
+        ensures taken { is_ok result ≡ true → states_of self.new ≡ states_of self.old ++ state ∷ [] }
         ensures states { states_of self.new ≡ states_after self.old (Append state) }
         ensures same { is_ok result ≡ false → self.new ≡ self.old }
         ensures table { table_of self.new ≡ table_of self.old }
