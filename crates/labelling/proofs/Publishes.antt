@@ -62,13 +62,6 @@ module _ {K : Type 0} (reads : K → Reading) (reach n : ℕ) where
 -- an unlawful record is declined for its first unlawful state
 pub declined : (table : List Formula) (xs : List State) (reach labels work : ℕ) (why : Refusal) → Short (length xs) reach → Roomy (length table * length xs) labels work → FirstUnlawful xs why
     → Declined table xs reach labels work why
-declined table xs reach labels work refusal.ForeignRecord short roomy u = absurd u.2
-declined table xs reach labels work refusal.TooManyStates short roomy u = absurd u.2
-declined table xs reach labels work refusal.RecordFull short roomy u = absurd u.2
-declined table xs reach labels work refusal.MemoryTooShort short roomy u = absurd u.2
 declined table xs reach labels work (refusal.NominalTaken i) short roomy u = (short, roomy, u)
 declined table xs reach labels work (refusal.ReferenceUnfit i) short roomy u = (short, roomy, u)
-declined table xs reach labels work refusal.NoSuchName short roomy u = absurd u.2
-declined table xs reach labels work refusal.LooseFormula short roomy u = absurd u.2
-declined table xs reach labels work refusal.NoSuchState short roomy u = absurd u.2
-declined table xs reach labels work refusal.NoSuchPoint short roomy u = absurd u.2
+declined table xs reach labels work _ short roomy u = absurd u.2
