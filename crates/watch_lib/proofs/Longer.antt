@@ -65,5 +65,6 @@ module _ (added : List ℕ) where
   pub reaches : (G : Ground) {start : List ℕ} {xs : List State} {text : List ℕ} {lines : List Line}
       → Reaches G start xs text lines → Reaches G (start ++ added) xs (text ++ added) lines
   reaches G none = none
-  reaches G (more {xs = xs} {text = text} {x = x} {rest = rest} before fit ok) =
-      more (reaches G before) (fits (trace_kind (length xs)) text (length xs + 1, x) rest fit) ok
+  reaches G (more {xs = xs} {text = text} {rest = rest} before fit ok) =
+      more (reaches G before)
+      (record { numbers = fit.numbers; fits = fits (trace_kind (length xs)) text fit.numbers rest fit.fits; means = fit.means }) ok

@@ -8,8 +8,8 @@ use Rattle.faults.specs.declared.read.ReadFault.{ReadFault}
 use Rattle.faults.specs.Refusals.{of_line, refusal}
 use Rattle.refusals.specs.declared.Refusal.{Refusal}
 use Rattle.refusals.specs.Numbers.{told}
-use Rattle.fields.specs.Kinds.{Fits}
-use Rattle.traces.specs.Traces.{trace_line, trace_kind}
+use Rattle.traces.specs.Traces.{trace_line}
+use Rattle.traces.specs.Meanings.{Passes}
 use Rattle.traces.proofs.Unique.{one_state, fit_or_refused, one_refusal}
 use Rattle.rulestexts.proofs.Unique as rulesText
 use Rattle.answers.specs.declared.types.Call.TheVariants.{Append}
@@ -37,7 +37,7 @@ module _ (G : Ground) where
   -- the next state is accepted
   abbrev pub Step : Place → Place → Type 0
   Step p q =
-      (x : State) × (rest : List ℕ) × Fits (trace_kind (length p.states)) p.rest (length p.states + 1, x) rest
+      (x : State) × (rest : List ℕ) × Passes (length p.states) x p.rest rest
       × (refusal_of G p.states (Append x) ≡ None) × (q ≡ stepped p x rest)
 
   pub one_step : (p q r : Place) → Step p q → Step p r → q ≡ r
@@ -60,7 +60,7 @@ module _ (G : Ground) where
   stuck xs text before n (Refused k l) (some, at, inr (y, t, why, fit', out, number)) q (x, rest, fit, ok, _) =
       clash xs x y why (one_state (length xs) x y text rest t fit fit').0 ok out
   stuck xs text before n (End k t) (none_left, e) q (x, rest, fit, ok, _) =
-      omega (arith, none_left, ap length fit.shows.line.shows, length-append (trace_line (length xs + 1) x) (10 ∷ rest))
+      omega (arith, none_left, ap length fit.fits.shows.line.shows, length-append (trace_line fit.numbers) (10 ∷ rest))
 
   one_number : (xs : List State) (text : List ℕ) (m n : ℕ) → NotTaken G xs text m → NotTaken G xs text n → m ≡ n
   one_number xs text m n (inl (e, x, p)) (inl (f, y, q)) = p ∙ ap (λ (z : LineFault). (of_line z).number) (one_refusal (length xs) text e f x y) ∙ sym q
