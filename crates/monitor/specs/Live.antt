@@ -1,5 +1,5 @@
 -- A live monitor, as clauses speak of it: what it stands on, the states of its record, and what it answers.
-use Rattle.std.specs.Prelude.{◌≡◌, ℕ, List, length, Option, Result, slice_index_or}
+use Rattle.std.specs.Prelude.{◌≡◌, ℕ, ◌+◌, List, length, Option, Result, slice_index_or}
 use Rattle.std.specs.List.{slice_get}
 use Rattle.logic.specs.declared.types.Rule.{Rule}
 use Rattle.logic.specs.declared.types.State.{State}
@@ -14,6 +14,7 @@ use Rattle.expectations.specs.declared.types.Notice.{Notice}
 use Rattle.expectations.specs.declared.types.Tally.{Tally}
 use Rattle.expectations.specs.Expectations.{Labels, verdict, standing, tallied, notices}
 use Rattle.answers.specs.declared.types.Call.{Call}
+use Rattle.answers.specs.declared.types.Call.TheVariants.{Append, LabelAt, StandingAt, TallyOf, NoticeOf}
 use Rattle.answers.specs.declared.types.Answer.{Answer}
 use Rattle.answers.specs.Answers.{Ground, answer, outcome, refused_by, grown_to}
 use Rattle.monitor.specs.Book.{ground_in}
@@ -62,9 +63,13 @@ module _ {R : Type 0} {G : growing.Ghosts R} {D : readable.Ghosts R} where
 
   -- ── What it answers ──
 
+  -- the refusal that fits the call first, if one does
+  abbrev pub refusal_at : Monitor R G D → Call → Option Refusal
+  refusal_at m call = refused_by (count_of m) (ground_of m) (states_of m) call
+
   -- v, or the refusal that fits the call first
   abbrev pub unless_refused : {A : Type 0} → Monitor R G D → Call → A → Result A Refusal
-  unless_refused m call v = outcome (refused_by (count_of m) (ground_of m) (states_of m) call) v
+  unless_refused m call v = outcome (refusal_at m call) v
 
   -- the answer to a call
   abbrev pub reply_of : Monitor R G D → Call → Result Answer Refusal
@@ -85,6 +90,23 @@ module _ {R : Type 0} {G : growing.Ghosts R} {D : readable.Ghosts R} where
   -- the notice of point c with number k, if there is one
   abbrev pub notice_at : Monitor R G D → (c k : ℕ) → Option Notice
   notice_at m c k = slice_get (notices (record_labels m) (table_rules m) c) k
+
+  -- what the calls answer: the value, or the refusal that fits first
+  abbrev pub label_answer : Monitor R G D → (f i c : ℕ) → Result Verdict Refusal
+  label_answer m f i c = unless_refused m (LabelAt f i c) (verdict_at m f i c)
+
+  abbrev pub standing_answer : Monitor R G D → (r i c : ℕ) → Result Standing Refusal
+  standing_answer m r i c = unless_refused m (StandingAt r i c) (standing_at m r i c)
+
+  abbrev pub tally_answer : Monitor R G D → (r : ℕ) → Result Tally Refusal
+  tally_answer m r = unless_refused m (TallyOf r) (tally_at m r)
+
+  abbrev pub notice_answer : Monitor R G D → (c k : ℕ) → Result (Option Notice) Refusal
+  notice_answer m c k = unless_refused m (NoticeOf c k) (notice_at m c k)
+
+  -- of an append, the number that the state x gets
+  abbrev pub append_answer : Monitor R G D → State → Result ℕ Refusal
+  append_answer m x = unless_refused m (Append x) (length (states_of m) + 1)
 
   -- the states of its record after a call that is carried out
   abbrev pub states_after : Monitor R G D → Call → List State
