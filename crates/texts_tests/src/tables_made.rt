@@ -1,5 +1,6 @@
 // Tables that are built by calls: limits on both sides, and which defect fits first.
 use logic::types::{Formula, Rule};
+use std::process::Abort;
 use table::defects::Defect;
 use table::draft::Draft;
 use table::finished::Table;
@@ -9,23 +10,29 @@ const ALWAYS: Rule = Rule {
     content: 0,
 };
 
+// The table of these formulas and rules has this defect, or none.
+fn made(rt: &impl Abort, formulas: &[Formula], rules: &[Rule], defect: Option<Defect>) {
+    assert_eq!(rt; Table::of(formulas, rules).err(), defect);
+}
+
 #[test]
 fn full_tables(rt: HostRuntime) {
-    let formulas = [Formula::True; 65];
-    let rules = [ALWAYS; 17];
-    for (count, rule_count, defect) in [
-        (64, 16, None),
-        (65, 16, Some(Defect::OutOfRange)),
-        (64, 17, Some(Defect::OutOfRange)),
-        (0, 1, Some(Defect::NoSuchFormula)),
-        (0, 0, Some(Defect::OutOfRange)),
-        (1, 0, Some(Defect::OutOfRange)),
-    ] {
-        assert_eq!(rt;
-            Table::of(&formulas[..count], &rules[..rule_count]).err(),
-            defect
-        );
-    }
+    made(&rt, &[Formula::True; 64], &[ALWAYS; 16], None);
+    made(
+        &rt,
+        &[Formula::True; 65],
+        &[ALWAYS; 16],
+        Some(Defect::OutOfRange),
+    );
+    made(
+        &rt,
+        &[Formula::True; 64],
+        &[ALWAYS; 17],
+        Some(Defect::OutOfRange),
+    );
+    made(&rt, &[], &[ALWAYS], Some(Defect::NoSuchFormula));
+    made(&rt, &[], &[], Some(Defect::OutOfRange));
+    made(&rt, &[Formula::True], &[], Some(Defect::OutOfRange));
 }
 
 // A full draft refuses with 3 what it would else refuse with 4.
