@@ -1,6 +1,6 @@
 -- Rows of labels, one for each state, that stand one after another in a list of cells.
-use Rattle.std.specs.Prelude.{◌≡◌, ℕ, zero, suc, ◌-◌, ◌*◌, ◌<◌, ◌≤◌, Bool, false, List, [], ◌∷◌, take, drop}
-use Rattle.labels.specs.Readings.{Reading}
+use Rattle.std.specs.Prelude.{◌≡◌, ℕ, zero, suc, ◌-◌, ◌*◌, ◌<◌, ◌≤◌, Bool, false, List, [], ◌∷◌, take, drop, slice_index_or}
+use Rattle.labels.specs.Readings.{Reading, Same, opened}
 
 -- the row of formula f, with n states to a row
 abbrev pub row : {K : Type 0} → (n f : ℕ) → List K → List K
@@ -24,3 +24,7 @@ prior reads xs (suc p) e c = cell reads xs p e c
 -- the labels before place p read as F says, at every point up to the kind's length
 abbrev pub Filled : {K : Type 0} → (K → Reading) → (reach : ℕ) → (ℕ → Reading) → List K → (p : ℕ) → Type 0
 Filled reads reach F xs p = (q : ℕ) (e : Bool) (c : ℕ) → q < p → 0 < c → c ≤ reach → cell reads xs q e c ≡ F q e c
+
+-- the first m cells are unknown
+abbrev pub Cleared : {K : Type 0} → (K → Reading) → (reach : ℕ) → List K → (m : ℕ) → Type 0
+Cleared {K} reads reach xs m = (k : ℕ) (d : K) → k < m → Same reach (reads (slice_index_or xs k d)) opened
