@@ -9,6 +9,7 @@ use Rattle.logic.specs.Tables.{tree, EachPart}
 use Rattle.labelling.specs.Rows.{row}
 use Rattle.labelling.specs.Tells.{Tells}
 use Rattle.labelling.specs.Bound.{ClosedTold, AllTold, Through, Published}
+use Rattle.labelling.specs.Whole.{Labelled}
 use Rattle.labelling.specs.declared.job.Job.{Job}
 use Rattle.labelling.specs.declared.job.Binder.{Binder}
 
@@ -54,3 +55,7 @@ module _ {K : Type 0} (reads : K → Reading) (reach : ℕ) where
   -- the label memory has the row of each formula as the working memory has it, and unknown labels where the formula is loose
   abbrev pub AllPublished : Job → (work cells : List K) → Type 0
   AllPublished job work cells = Published reads reach job.n job.flags.now work cells (length job.table.now)
+
+  -- both memories hold afterwards what a whole labelling of the job's states leaves
+  abbrev pub JobLabelled : Job → (old oldWork new newWork : List K) → Type 0
+  JobLabelled job old oldWork new newWork = Labelled reads reach job.table.now job.states.now old oldWork new newWork

@@ -1,5 +1,5 @@
 -- Rows of labels, one for each state, that stand one after another in a list of cells.
-use Rattle.std.specs.Prelude.{◌≡◌, ℕ, zero, suc, ◌-◌, ◌*◌, ◌<◌, ◌≤◌, Bool, false, List, [], ◌∷◌, take, drop, slice_index_or}
+use Rattle.std.specs.Prelude.{◌≡◌, ℕ, zero, suc, ◌-◌, ◌*◌, ◌<◌, ◌≤◌, Bool, false, List, [], ◌∷◌, take, drop, Option, MatchOption, slice_index_or}
 use Rattle.labels.specs.Readings.{Reading, Same, opened}
 
 -- the row of formula f, with n states to a row
@@ -15,6 +15,10 @@ cell reads (x ∷ xs) (suc p) e c = cell reads xs p e c
 -- at a state, which counts from 1
 abbrev pub at : {K : Type 0} → (K → Reading) → List K → ℕ → Reading
 at reads xs i = cell reads xs (i - 1)
+
+-- a label reads as the one at a state, and is unknown where there is none
+abbrev pub ReadAt : {K : Type 0} → (K → Reading) → (reach : ℕ) → List K → Option ℕ → K → Type 0
+ReadAt reads reach xs state x = MatchOption state (Same reach (reads x) opened) (λ i. Same reach (reads x) (at reads xs i))
 
 -- at the place before, and false before the first
 unfoldable pub prior : {K : Type 0} → (K → Reading) → List K → ℕ → Reading

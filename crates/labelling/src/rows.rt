@@ -3,7 +3,7 @@
 ghost use Rattle.std.specs.Prelude.{◌≡◌, ℕ, ◌+◌, ◌*◌, ◌^◌, ◌<◌, ◌≤◌, length, IfSome, MatchOption, slice_index_or};
 ghost use Rattle.labels.specs.Readings.{Same, opened, negated, both, either, seen};
 ghost use Rattle.logic.specs.Logic.{not', and', or', next, previous, until, since};
-ghost use Rattle.labelling.specs.Rows.{at, cell, prior, row, Cleared};
+ghost use Rattle.labelling.specs.Rows.{cell, prior, row, ReadAt, Cleared};
 ghost use Rattle.labelling.specs.Tells.{Applied, Combined, AppliedAt};
 
 use labels::LabelKind;
@@ -144,7 +144,7 @@ pub(crate) fn label_since<K: LabelKind + Copy>(a: &[K], b: &[K], own: &mut [K])
 // The label at a state, and unknown where there is none.
 fn label_in<K: LabelKind + Copy>(row: &[K], state: Option<usize>) -> K
     requires { IfSome state (λ i. (1 ≤ i) × (i ≤ length row.now)) }
-    ensures { MatchOption state (Same K.reach (K.reads result) opened) (λ i. Same K.reach (K.reads result) (at K.reads row.now i)) }
+    ensures { ReadAt K.reads K.reach row.now state result }
 {
     state.map_or(K::unknown(), |i| row[i - 1])
 }

@@ -1,8 +1,8 @@
 // Whole labelling: the labels of all states of a record at all formulas of a table.
 ghost use Rattle.std.specs.Prelude.{◌≡◌, ◌≤◌, length};
 ghost use Rattle.labelling.specs.Rows.{Cleared};
-ghost use Rattle.labelling.specs.Jobs.{AllPublished, total};
-ghost use Rattle.labelling.specs.Whole.{HasLabels, Short, Roomy, Labelled, TableLabelled};
+ghost use Rattle.labelling.specs.Jobs.{AllPublished, JobLabelled, total};
+ghost use Rattle.labelling.specs.Whole.{HasLabels, Short, Roomy, Labelling};
 
 use crate::job::Job;
 use crate::rows::clear;
@@ -45,7 +45,7 @@ impl<'a> Job<'a> {
     fn label_all<K: LabelKind + Copy>(&self, labels: &mut [K], work: &mut [K])
         requires short { Short self.now.n K.reach }
         requires roomy { Roomy (total self.now) (length labels.old) (length work.old) }
-        ensures { Labelled K.reads K.reach self.now.table.now self.now.states.now labels.old work.old labels.new work.new }
+        ensures { JobLabelled K.reads K.reach self.now labels.old work.old labels.new work.new }
     {
         let total = self.table.len() * self.n;
         self.label_rows(&mut labels[..total], &mut work[..total]);
@@ -73,7 +73,7 @@ pub fn label_whole<K: LabelKind + Copy, R: Readable>(
     labels: &mut [K],
     work: &mut [K],
 ) -> Result<usize, Refusal>
-    ensures { TableLabelled K.reads K.reach table.now (R.states log.now) labels.old work.old result labels.new work.new }
+    ensures { Labelling K.reads K.reach table.now (R.states log.now) labels.old work.old result labels.new work.new }
 {
     let n = log.count();
     if n > MOST_STATES || n > K::length() {
