@@ -69,6 +69,9 @@ Answered reads reach table xs old oldWork (Ok n) new newWork = (n ≡ length xs)
 Answered reads reach table xs old oldWork (Err why) new newWork =
     Declined table xs reach (length old) (length oldWork) why × (new ≡ old) × (newWork ≡ oldWork)
 
--- whole labelling of a record's states at all formulas of a table
+-- the same over the formulas of a table: what a whole labelling leaves, and what it answers
+abbrev pub Leaves : {K : Type 0} → (K → Reading) → (reach : ℕ) → Table → List State → (old oldWork new newWork : List K) → Type 0
+Leaves reads reach t xs old oldWork new newWork = Labelled reads reach (formulas_of t.draft) xs old oldWork new newWork
+
 abbrev pub Labelling : {K : Type 0} → (K → Reading) → (reach : ℕ) → Table → List State → (old oldWork : List K) → Result ℕ Refusal → (new newWork : List K) → Type 0
 Labelling reads reach t xs old oldWork result new newWork = Answered reads reach (formulas_of t.draft) xs old oldWork result new newWork
