@@ -12,9 +12,10 @@ use Rattle.refusals.specs.declared.Refusal.TheVariants as refusal
 use Rattle.table.specs.Tables.{formulas_of, rules_of}
 use Rattle.table.specs.declared.finished.Table.{Table}
 use Rattle.expectations.specs.declared.types.Label.{Label}
+use Rattle.expectations.specs.declared.types.Standing.{Standing}
 use Rattle.expectations.specs.declared.types.Tally.{Tally}
 use Rattle.expectations.specs.declared.types.Label.TheVariants.{Unknown}
-use Rattle.expectations.specs.Expectations.{Labels, no_tally, tallied}
+use Rattle.expectations.specs.Expectations.{Labels, no_tally, standing, tallied}
 use Rattle.growth.specs.Growth.{label_of_number, labels_of}
 use Rattle.answers.specs.Answers.{Ground}
 use Rattle.monitor.specs.declared.book.Book.{Book}
@@ -50,6 +51,10 @@ cell_at xs k = label_in (slice_get xs k)
 -- the labels that the cells hold
 abbrev pub held : Book → Labels
 held b f i = cell_at b.cells (f * b.count + (i - 1))
+
+-- the standing of rule r's expectation of state s, by the labels that the cells hold, as the last point reads it
+abbrev pub standing_in : Book → (r s : ℕ) → Standing
+standing_in b r s = standing (held b) (slice_index_or (rules_in b) r no_rule) s b.count
 
 -- rule r's tally, counted by the labels that the cells hold, as the last point reads it
 abbrev pub tally_in : Book → (r : ℕ) → Tally
