@@ -1,9 +1,8 @@
 use Rattle.std.proofs.Common.{◌≤◌}
-use Rattle.growth.specs.Growth.{labels_of}
-use Rattle.monitor.specs.Book.{table_of}
+use Rattle.monitor.specs.Live.{states_of, ground_of}
 use Rattle.published.proofs.Dating.{OpenTo}
 use Rattle.published.proofs.asking.label_of.Given as goal
 
 abbrev pub invariant-loop-point : goal.invariant-loop-point
 invariant-loop-point g l =
-    (l.state ≤ l.point) × OpenTo (labels_of (table_of l.monitor.book) (g.R.Readable.states l.monitor.log) l.formula l.state) l.state l.point
+    (l.state ≤ l.point) × OpenTo ((ground_of l.monitor).labelled (states_of l.monitor) l.formula l.state) l.state l.point
