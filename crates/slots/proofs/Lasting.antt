@@ -21,7 +21,7 @@ use Rattle.answers.specs.Answers.{Ground, told, after, accepted}
 use Rattle.answers.specs.Law.{foreign, Ran, Judged}
 use Rattle.refusals.specs.declared.Refusal.{Refusal}
 use Rattle.monitor.specs.Book.{ground}
-use Rattle.runs.specs.Meant.{GoesOn}
+use Rattle.monitor.specs.Meant.{GoesOn}
 use Rattle.slots.specs.Slots.{slot_formulas, slot_rule, double_free_log}
 use Rattle.slots.specs.ForGood.{slot_calls, slot_answers, slot_content, ForGood}
 

@@ -5,17 +5,12 @@ ghost use Rattle.slots.specs.ForGood.{slot_calls, slot_answers, ForGood};
 use crate::log::double_free;
 use crate::rule::{CONTENT, RULE, slot_table};
 use answers::types::{Answer, Call};
-use labels::LabelKind;
-use labels::dated::Dated;
 use records::change_record::ChangeRecord;
 use refusals::Refusal;
-use runs::run::run;
+use runs::run::call_all;
 use table::defects::Defect;
 
 const CALLS: usize = 15;
-
-// The labels of the table's five formulas at the six states of the log.
-const CELLS: usize = 30;
 
 // The states of the log, and then what is asked of the slots of states 1 and 3.
 fn calls() -> [Call; CALLS]
@@ -49,15 +44,6 @@ pub fn violated_for_good() -> Result<[Result<Answer, Refusal>; CALLS], Defect>
 {
     let table = slot_table()?;
     let mut answers = [Ok(Answer::Tells(None)); CALLS];
-    let mut labels = [Dated::unknown(); CELLS];
-    let mut work = [Dated::unknown(); CELLS];
-    let _ = run(
-        table,
-        ChangeRecord::new(),
-        &calls(),
-        &mut answers,
-        &mut labels,
-        &mut work,
-    );
+    let _ = call_all(table, ChangeRecord::new(), &calls(), &mut answers);
     Ok(answers)
 }
