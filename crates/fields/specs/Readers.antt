@@ -1,4 +1,4 @@
--- What the readers of a kind's lines answer: one that reads a line's form, one that reads its ranges, and both on a text's first line.
+-- What readers of a kind's lines answer: one of a line's form, one of its ranges, and both together on a text's first line.
 use Rattle.std.specs.Prelude.{◌≡◌, ℕ, List, Option, Result, MatchOption, MatchResult}
 use Rattle.faults.specs.declared.line.LineFault.{LineFault}
 use Rattle.fields.specs.declared.lines.Taken.{Taken}
@@ -13,10 +13,12 @@ abbrev pub GivenIf : {A : Type 0} → (InRange : Type 0) → (x : A) → Option 
 GivenIf InRange x o = MatchOption o (InRange → ⊥) (λ y. InRange × (y ≡ x))
 
 -- The first line of a text: it is taken for the value that what is answered stands for, or it is refused.
-abbrev pub ReadsValue : (K : Kind) → {A : Type 0} → (value : A → K.Value) → (text : List ℕ) → (place : ℕ) → Result (Taken A) LineFault → Type 0
+abbrev pub ReadsValue : (K : Kind) → {A : Type 0} → (value : A → K.Value) → (text : List ℕ) → (place : ℕ)
+    → Result (Taken A) LineFault → Type 0
 ReadsValue K value text place r = MatchResult r (λ a. Takes K text (value a.value) a.used) (λ e. Refuses K text place e)
 
 -- The first line of a text: it is taken for a value that means what is answered, or it is refused.
-abbrev pub ReadsMeaning : (K : Kind) → {A : Type 0} → (meaning : K.Value → A) → (text : List ℕ) → (place : ℕ) → Result (Taken A) LineFault → Type 0
+abbrev pub ReadsMeaning : (K : Kind) → {A : Type 0} → (meaning : K.Value → A) → (text : List ℕ) → (place : ℕ)
+    → Result (Taken A) LineFault → Type 0
 ReadsMeaning K meaning text place r =
     MatchResult r (λ a. (v : K.Value) × Takes K text v a.used × (a.value ≡ meaning v)) (λ e. Refuses K text place e)
