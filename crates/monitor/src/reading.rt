@@ -4,7 +4,7 @@ ghost use Rattle.std.specs.List.{slice_get, flat_map};
 ghost use Rattle.std.specs.Option.{option_to_list};
 ghost use Rattle.logic.specs.Tables.{no_rule};
 ghost use Rattle.expectations.specs.Expectations.{no_tally, raises, standing as standing_of, added, of_state, notices};
-ghost use Rattle.monitor.specs.Book.{held, rules_in, standing_in, tally_in, Countable, SameButTallies, TalliesRight};
+ghost use Rattle.monitor.specs.Book.{held, rules_in, standing_in, tally_in, Countable, OtherTallies, SameButTallies, TalliesRight};
 
 use crate::book::Book;
 use expectations::reading::{is_false_from, is_true_from, judge};
@@ -72,7 +72,8 @@ impl Expectation<'_> {
 
     // The notices that a point has on it, by the number of its rule: a raising, a fulfilment, a violation.
     fn events(&self, r: usize, point: usize) -> [Option<Notice>; 3]
-        ensures { flat_map option_to_list result ≡ of_state (held self.now.book.now) point r self.now.rule self.now.state }
+        ensures { flat_map option_to_list result ≡
+            of_state (held self.now.book.now) point r self.now.rule self.now.state }
     {
         if !self.is_raised() {
             return [None; 3];
@@ -124,7 +125,7 @@ impl Book {
         requires { r < length (rules_in self.old) }
         ensures same { SameButTallies self.old self.new }
         ensures right { slice_index_or self.new.tallies r no_tally ≡ tally_in self.new r }
-        ensures others { (k : ℕ) → k ≢ r → slice_index_or self.new.tallies k no_tally ≡ slice_index_or self.old.tallies k no_tally }
+        ensures others { OtherTallies r self.old self.new }
     {
         self.tallies[r] = Tally::default();
         // Not `1..=`, after which it is not known where an empty loop ends.
