@@ -1,9 +1,9 @@
 // The labels of formulas that bind the variable. A loose formula has no labels of its own: its row is filled anew for each
 // binding that a formula above it needs, and only if that formula is made of it.
-ghost use Rattle.std.specs.Prelude.{◌≡◌, ℕ, ◌+◌, ◌*◌, ◌<◌, ◌≤◌, true, false, length, slice_index_or};
+ghost use Rattle.std.specs.Prelude.{◌≡◌, ◌+◌, ◌*◌, ◌<◌, false, length};
 ghost use Rattle.logic.specs.Logic.{bind, some'};
 ghost use Rattle.logic.specs.Tables.{loose};
-ghost use Rattle.labelling.specs.Jobs.{ToldFree, Known, KnownBound, Widened, tree_at, bound_part};
+ghost use Rattle.labelling.specs.Jobs.{ToldFree, Known, KnownBound, Widened, total, tree_at, bound_part};
 
 use crate::job::{Binder, Job};
 use crate::rows::row_of;
@@ -112,7 +112,7 @@ impl<'a> Job<'a> {
 
     // Labels each formula that is not loose. What the cells of loose formulas hold afterwards says nothing.
     pub(crate) fn label_table<K: LabelKind + Copy>(&self, cells: &mut [K])
-        requires room { length self.now.table.now * self.now.n ≡ length cells.old }
+        requires room { length cells.old ≡ total self.now }
         ensures told { Known K.reads K.reach self.now cells.new (length self.now.table.now) }
     {
         for (f, loose) in self.flags.iter().enumerate() {

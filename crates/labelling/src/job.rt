@@ -1,5 +1,5 @@
-// A labelling at work, and the labelling of a formula that binds the variable. Both stand apart from what they do, so that the clauses
-// there may speak of them by relations.
+// A labelling at work, and the labelling of one formula that binds the variable. The structs stand apart from what they do, so that
+// the clauses there can speak of them by relations (specs/Jobs.antt).
 ghost use Rattle.std.specs.Prelude.{◌≡◌, ◌<◌, ◌≤◌, length};
 ghost use Rattle.logic.specs.States.{state_at};
 ghost use Rattle.logic.specs.Lawful.{LawfulTo};
@@ -11,8 +11,8 @@ ghost use Rattle.labelling.specs.Bound.{Ready, Cone};
 use logic::types::{Formula, State};
 use table::draft::MOST_FORMULAS;
 
-// What a labelling goes by: n lawful states, which were read from a record once, and a table in order with the flag of each formula,
-// whether it is loose.
+// What a labelling goes by: n lawful states, which were read from a record once, and a table in order with the flag of each
+// formula, whether it is loose.
 #[derive(Drop)]
 pub(crate) struct Job<'a> {
     pub(crate) states: &'a [State],
