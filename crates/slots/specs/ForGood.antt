@@ -62,11 +62,15 @@ pub record ForGood : Type 0 where
   pub freed : (u : Trace) → Lawful u → Begins double_free_log u → FreedInTime u 1
   pub never_freed : (u : Trace) → Lawful u → Begins double_free_log u → FreedInTime u 3 → ⊥
 
+-- call k of the list was answered so, or refused for its point
+abbrev pub ToldOrRefused : (k : ℕ) → Answer → Type 0
+ToldOrRefused k a = AnswerIs slot_answers k a ⊎ PointRefused slot_answers k
+
 -- What follows of the list of calls and its answers: of the later asks (k) for what was answered at point 4, none takes it back.
 pub record NoneTakenBack : Type 0 where
   -- each later ask for the standing of state 3, at point 4 or after it, tells the same violation, or is refused for its point
-  pub standings : (k d : ℕ) → 6 ≤ k → 4 ≤ d → CallIs slot_calls k (StandingAt 0 3 d) → AnswerIs slot_answers k (Stands (Violated 4)) ⊎ PointRefused slot_answers k
+  pub standings : (k d : ℕ) → 6 ≤ k → 4 ≤ d → CallIs slot_calls k (StandingAt 0 3 d) → ToldOrRefused k (Stands (Violated 4))
   -- each later ask for the label of the content at state 3 reads false, or is refused for its point
-  pub labels : (k d : ℕ) → 4 ≤ k → 4 ≤ d → CallIs slot_calls k (LabelAt 4 3 d) → AnswerIs slot_answers k (Reads is.False) ⊎ PointRefused slot_answers k
+  pub labels : (k d : ℕ) → 4 ≤ k → 4 ≤ d → CallIs slot_calls k (LabelAt 4 3 d) → ToldOrRefused k (Reads is.False)
   -- each later ask for the first notice of point 4 tells the violation
   pub notices : (k : ℕ) → 5 ≤ k → CallIs slot_calls k (NoticeOf 4 0) → AnswerIs slot_answers k (Tells (Some violation))

@@ -83,23 +83,35 @@ pub record LogJudged : Type 0 where
   pub no_gaps : (k : ℕ) → 2 ≤ k → NoticeIs slots double_free_log 4 k None
 
 -- ── What the answers mean (`Meant`) ──
+
+-- the content of the rule holds weakly, or strongly, at state i of the log as point c reads it
+abbrev pub Weakly : (i c : ℕ) → Type 0
+Weakly i c = HoldsWeakly double_free_log slot_content i c
+
+abbrev pub Strongly : (i c : ℕ) → Type 0
+Strongly i c = HoldsStrongly double_free_log slot_content i c
+
+-- its condition, that the slot is taken, holds strongly at state i as the state's own point reads it
+abbrev pub IsTaken : (i : ℕ) → Type 0
+IsTaken i = HoldsStrongly double_free_log (signal 0) i i
+
 pub record LogMeant : Type 0 where
   -- the content at state 1 is true at point 2: it holds strongly there
-  pub verdict_true : HoldsStrongly double_free_log slot_content 1 2
+  pub verdict_true : Strongly 1 2
   -- the content at state 3 is unknown at point 3: it holds weakly there, and not strongly
-  pub verdict_unknown : HoldsWeakly double_free_log slot_content 3 3 × (HoldsStrongly double_free_log slot_content 3 3 → ⊥)
+  pub verdict_unknown : Weakly 3 3 × (Strongly 3 3 → ⊥)
   -- and false at point 4: it does not hold weakly there
-  pub verdict_false : HoldsWeakly double_free_log slot_content 3 4 → ⊥
+  pub verdict_false : Weakly 3 4 → ⊥
   -- at point 6 the expectation of state 3 is violated at 4: the condition holds strongly at state 3; the content holds weakly at
   -- point 3, and not at point 4
-  pub standing_violated : HoldsStrongly double_free_log (signal 0) 3 3 × HoldsWeakly double_free_log slot_content 3 3 × (HoldsWeakly double_free_log slot_content 3 4 → ⊥)
+  pub standing_violated : IsTaken 3 × Weakly 3 3 × (Weakly 3 4 → ⊥)
   -- that of state 1 is fulfilled at 2: the condition holds strongly at state 1; the content holds strongly at point 2, and not at
   -- point 1
-  pub standing_fulfilled : HoldsStrongly double_free_log (signal 0) 1 1 × HoldsStrongly double_free_log slot_content 1 2 × (HoldsStrongly double_free_log slot_content 1 1 → ⊥)
+  pub standing_fulfilled : IsTaken 1 × Strongly 1 2 × (Strongly 1 1 → ⊥)
   -- that of state 6 is open: the condition holds strongly at state 6; the content holds weakly there, and not strongly
-  pub standing_open : HoldsStrongly double_free_log (signal 0) 6 6 × HoldsWeakly double_free_log slot_content 6 6 × (HoldsStrongly double_free_log slot_content 6 6 → ⊥)
+  pub standing_open : IsTaken 6 × Weakly 6 6 × (Strongly 6 6 → ⊥)
   -- at state 2 none is raised: the condition does not hold strongly there
-  pub standing_not_raised : HoldsStrongly double_free_log (signal 0) 2 2 → ⊥
+  pub standing_not_raised : IsTaken 2 → ⊥
   -- after the log a state that refers to itself is refused for its reference, which is unfit
   pub appends : ReferenceUnfit (joined double_free_log refers_to_7) 7
 
