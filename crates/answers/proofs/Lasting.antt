@@ -13,6 +13,7 @@ use Rattle.expectations.specs.declared.types.Standing.{Standing}
 use Rattle.expectations.specs.declared.types.Standing.TheVariants.{Pending}
 use Rattle.expectations.specs.declared.types.Notice.{Notice}
 use Rattle.expectations.specs.declared.types.Tally.{Tally}
+use Rattle.expectations.specs.Expectations.{tallied}
 use Rattle.expectations.specs.Counted.{NoFewer}
 use Rattle.expectations.proofs.Stays.{decisions_last_lem}
 use Rattle.answers.specs.declared.types.Call.{Call}
@@ -88,8 +89,9 @@ module _ (G : Ground) (F : Founded G) where
     tally_lasts cs r t e =
         stays (λ ys. (u : Tally) → TallyIs G ys r u → NoFewer t u)
         (λ ys x j takes less u f.
-        let now = tally_tells G ys r (tally_told G xs r t e).0 in
-        no_fewer t _ u (less _ now) (j.tallies_grow x takes r _ u now f))
+        let before : Tally = tallied (G.labelled ys) (get_or G.rules r no_rule) (length ys) (length ys) in
+        let now : TallyIs G ys r before = tally_tells G ys r (tally_told G xs r t e).0 in
+        no_fewer t before u (less before now) (j.tallies_grow x takes r before u now f))
         xs cs law small (λ u f. same_tally t u (sym (tally_told G xs r t e).1 ∙ (tally_told G xs r u f).1))
 
     pub lasts : Lasts G xs
