@@ -5,7 +5,7 @@ use Rattle.expectations.specs.declared.types.Verdict.TheVariants as is
 use Rattle.logic.specs.declared.types.Formula.{Formula}
 use Rattle.logic.specs.declared.types.Formula.TheVariants.{Signal, Next, Variable}
 use Rattle.logic.specs.declared.types.Rule.{Rule}
-use Rattle.table.specs.Tables.{formulas_of, rules_of}
+use Rattle.table.specs.Tables.{formulas_in, rules_in}
 use Rattle.table.specs.declared.defects.Defect.{Defect}
 use Rattle.table.specs.declared.finished.Table.{Table}
 
@@ -19,7 +19,7 @@ reply_rule = record { condition = 0; content = 2 }
 
 -- the table is made, and not refused
 abbrev pub ReplyTable : Result Table Defect → Type 0
-ReplyTable (Ok t) = (formulas_of t.draft ≡ reply_formulas) × (rules_of t.draft ≡ reply_rule ∷ [])
+ReplyTable (Ok t) = (formulas_in t ≡ reply_formulas) × (rules_in t ≡ reply_rule ∷ [])
 ReplyTable (Err why) = ⊥
 
 -- true where it holds strongly, false where it does not hold weakly, and otherwise unknown

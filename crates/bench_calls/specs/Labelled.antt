@@ -13,7 +13,7 @@ use Rattle.rulestexts.specs.Texts.{Whole, Refused}
 use Rattle.textrecord.specs.Listed.{states_of}
 use Rattle.labelling.specs.Whole.{LabelOf, place, Short, Declined, Labelled, Answered}
 use Rattle.table.specs.declared.finished.Table.{Table}
-use Rattle.table.specs.Tables.{formulas_of}
+use Rattle.table.specs.Tables.{formulas_in}
 use Rattle.bench_calls.specs.declared.outcome.Outcome.{Outcome}
 use Rattle.bench_calls.specs.declared.labelled.Counts.{Counts}
 use Rattle.bench_calls.specs.Outcomes.{stopped}
@@ -49,16 +49,16 @@ Counted formulas xs w = (w.states ≡ length xs) × (w.cells ≡ length formulas
 -- what whole labelling answers and leaves of a table's formulas at these states
 abbrev pub TableLabelled : {K : Type 0} → (K → Reading) → (reach : ℕ) → Table → List State → (old oldWork : List K) → Result ℕ Refusal
     → (new newWork : List K) → Type 0
-TableLabelled reads reach table xs old oldWork r new newWork = Answered reads reach (formulas_of table.draft) xs old oldWork r new newWork
+TableLabelled reads reach table xs old oldWork r new newWork = Answered reads reach (formulas_in table) xs old oldWork r new newWork
 
 -- the states of a text of trace lines are labelled and counted, or whole labelling declines them
 abbrev pub LinesLabelled : {K : Type 0} → (K → Reading) → (reach : ℕ) → Table → (text : List ℕ) → (old oldWork : List K)
     → Result Counts Refusal → (new newWork : List K) → Type 0
 LinesLabelled reads reach table text old oldWork r new newWork =
     MatchResult r
-    (λ w. Labelled reads reach (formulas_of table.draft) (states_of text) old oldWork new newWork
-    × Counted (formulas_of table.draft) (states_of text) w)
-    (λ why. Declined (formulas_of table.draft) (states_of text) reach (length old) (length oldWork) why)
+    (λ w. Labelled reads reach (formulas_in table) (states_of text) old oldWork new newWork
+    × Counted (formulas_in table) (states_of text) w)
+    (λ why. Declined (formulas_in table) (states_of text) reach (length old) (length oldWork) why)
 
 -- the text is labelled, or not
 abbrev pub TextLabelled : {K : Type 0} → (K → Reading) → (reach room : ℕ) → (text : List ℕ) → Result Counts Outcome → List K → Type 0

@@ -6,7 +6,7 @@ use Rattle.logic.specs.declared.types.Reference.{Reference}
 use Rattle.logic.specs.declared.types.Rule.{Rule}
 use Rattle.logic.specs.declared.types.State.{State}
 use Rattle.logic.specs.States.{no_reference}
-use Rattle.table.specs.Tables.{formulas_of, rules_of}
+use Rattle.table.specs.Tables.{formulas_in, rules_in}
 use Rattle.table.specs.declared.defects.Defect.{Defect}
 use Rattle.table.specs.declared.finished.Table.{Table}
 
@@ -39,5 +39,5 @@ full_rule = record { condition = 1; content = 9 }
 
 -- the table is made, and not refused
 abbrev pub FullTable : Result Table Defect → Type 0
-FullTable (Ok t) = (formulas_of t.draft ≡ full_formulas) × (rules_of t.draft ≡ full_rule ∷ [])
+FullTable (Ok t) = (formulas_in t ≡ full_formulas) × (rules_in t ≡ full_rule ∷ [])
 FullTable (Err why) = ⊥

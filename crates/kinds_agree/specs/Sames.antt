@@ -7,7 +7,7 @@ use Rattle.strips.specs.Masks.{strip}
 use Rattle.strips.specs.declared.Strip.{Strip}
 use Rattle.logic.specs.declared.types.State.{State}
 use Rattle.logic.specs.Lawful.{LawfulRecord}
-use Rattle.table.specs.Tables.{formulas_of}
+use Rattle.table.specs.Tables.{formulas_in}
 use Rattle.table.specs.declared.finished.Table.{Table}
 use Rattle.labelling.specs.Whole.{HasLabels, Short, Roomy}
 
@@ -29,12 +29,12 @@ AllSame readsA readsB xs ys = (length xs ≡ length ys) × SameTo readsA readsB 
 
 -- whole labelling of a log is not declined, with so many cells for labels and so many to work in
 abbrev pub Labellable : (reach labels work : ℕ) → Table → List State → Type 0
-Labellable reach labels work t xs = Short (length xs) reach × Roomy (length (formulas_of t.draft) * length xs) labels work × LawfulRecord xs
+Labellable reach labels work t xs = Short (length xs) reach × Roomy (length (formulas_in t) * length xs) labels work × LawfulRecord xs
 
 -- a log has its labels in dates and in strips, and they tell the same
 pub record KindsAgreed (t : Table) (xs : List State) : Type 0 where
   pub dates : List Dated
   pub strips : List Strip
-  pub in_dates : HasLabels (λ (x : Dated). dated x.value) 256 (formulas_of t.draft) xs dates
-  pub in_strips : HasLabels (λ (x : Strip). strip x.weak x.strong) 64 (formulas_of t.draft) xs strips
+  pub in_dates : HasLabels (λ (x : Dated). dated x.value) 256 (formulas_in t) xs dates
+  pub in_strips : HasLabels (λ (x : Strip). strip x.weak x.strong) 64 (formulas_in t) xs strips
   pub same : AllSame (λ (x : Dated). dated x.value) (λ (x : Strip). strip x.weak x.strong) dates strips

@@ -2,7 +2,7 @@
 #![tactic(auto)]
 
 ghost use Rattle.std.specs.Prelude.{◌≡◌, ℕ, ◌<◌, ◌≤◌, length};
-ghost use Rattle.table.specs.Tables.{formulas_of};
+ghost use Rattle.table.specs.Tables.{formulas_in};
 ghost use Rattle.kinds_agree.specs.Logs.{numbered};
 ghost use Rattle.kinds_agree.specs.Sames.{KindsAgreed};
 
@@ -24,8 +24,8 @@ const LOGS: usize = 1024;
 // as it does with more than 32 formulas. A loop, since `count` after a `filter` tells too little of the logs that pass.
 fn count_agreeing(table: &Table) -> usize
     ensures each { result ≡ 1024 → (k : ℕ) → k < 1024 → KindsAgreed table.now (numbered k) }
-    ensures all { length (formulas_of table.now.draft) ≤ 32 → result ≡ 1024 }
-    ensures none { 32 < length (formulas_of table.now.draft) → result ≡ 0 }
+    ensures all { length (formulas_in table.now) ≤ 32 → result ≡ 1024 }
+    ensures none { 32 < length (formulas_in table.now) → result ≡ 0 }
 {
     let mut agreed = 0;
     for k in 0..LOGS {

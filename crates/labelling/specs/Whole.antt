@@ -9,7 +9,7 @@ use Rattle.logic.specs.Logic.{Tree, Reads}
 use Rattle.logic.specs.Tables.{tree, loose}
 use Rattle.refusals.specs.declared.Refusal.{Refusal}
 use Rattle.refusals.specs.declared.Refusal.TheVariants as refusal
-use Rattle.table.specs.Tables.{formulas_of}
+use Rattle.table.specs.Tables.{formulas_in}
 use Rattle.table.specs.declared.finished.Table.{Table}
 use Rattle.lawful.specs.Unlawful.{FirstUnlawful}
 use Rattle.labelling.specs.Rows.{Cleared}
@@ -71,7 +71,7 @@ Answered reads reach table xs old oldWork (Err why) new newWork =
 
 -- the same over the formulas of a table: what a whole labelling leaves, and what it answers
 abbrev pub Leaves : {K : Type 0} → (K → Reading) → (reach : ℕ) → Table → List State → (old oldWork new newWork : List K) → Type 0
-Leaves reads reach t xs old oldWork new newWork = Labelled reads reach (formulas_of t.draft) xs old oldWork new newWork
+Leaves reads reach t xs old oldWork new newWork = Labelled reads reach (formulas_in t) xs old oldWork new newWork
 
 abbrev pub Labelling : {K : Type 0} → (K → Reading) → (reach : ℕ) → Table → List State → (old oldWork : List K) → Result ℕ Refusal → (new newWork : List K) → Type 0
-Labelling reads reach t xs old oldWork result new newWork = Answered reads reach (formulas_of t.draft) xs old oldWork result new newWork
+Labelling reads reach t xs old oldWork result new newWork = Answered reads reach (formulas_in t) xs old oldWork result new newWork

@@ -2,7 +2,7 @@
 use Rattle.std.proofs.Common.{◌≤◌, length, arith}
 use Rattle.records.specs.declared.growing.Growing as growing
 use Rattle.records.specs.declared.readable.Readable as readable
-use Rattle.answers.proofs.Stepping.{own_told}
+use Rattle.answers.proofs.Stepping.{own_told, own_grown}
 use Rattle.monitor.specs.Book.{formulas_in, rules_in}
 use Rattle.monitor.specs.Live.{states_of, room_of, count_of, ground_of, Own}
 use Rattle.monitor.specs.Promises.{Promises}
@@ -16,6 +16,7 @@ keeps_promises m own =
     let fits : length (states_of m) ≤ room_of m = omega (arith, own, m.roomy) in
     record {
       replies = λ call. own_told (count_of m) (ground_of m) (states_of m) call own;
+      grows = λ call. own_grown (count_of m) (ground_of m) (states_of m) call own;
       now = promised (formulas_in m.book) (rules_in m.book) (room_of m) (states_of m) law small fits;
       later = promised_later (formulas_in m.book) (rules_in m.book) (room_of m) (states_of m) law small fits;
     }

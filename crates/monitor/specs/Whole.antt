@@ -8,7 +8,7 @@ use Rattle.refusals.specs.declared.Refusal.TheVariants as refusal
 use Rattle.records.specs.declared.growing.Growing as growing
 use Rattle.records.specs.declared.readable.Readable as readable
 use Rattle.labelling.specs.Whole.{place, Short, Roomy, Declined, Labelled}
-use Rattle.table.specs.Tables.{formulas_of}
+use Rattle.table.specs.Tables.{formulas_in}
 use Rattle.expectations.specs.declared.types.Verdict.{Verdict}
 use Rattle.growth.specs.Laws.{read_as}
 use Rattle.answers.specs.declared.types.Call.TheVariants.{LabelAt}
@@ -32,12 +32,13 @@ module _ {R : Type 0} {G : growing.Ghosts R} {D : readable.Ghosts R} where
   -- so the record of a monitor is labelled
   abbrev pub RecordLabelled : {K : Type 0} → (K → Reading) → (reach : ℕ) → Monitor R G D → (old oldWork : List K) → Result ℕ Refusal → (new newWork : List K) → Type 0
   RecordLabelled reads reach m old oldWork result new newWork =
-      WholeAnswered reads reach (count_of m) (formulas_of (table_of m).draft) (states_of m) old oldWork result new newWork
+      WholeAnswered reads reach (count_of m) (formulas_in (table_of m)) (states_of m) old oldWork result new newWork
 
-  -- the kind is long enough for the states of its record, and the label memory and the working memory for their labels
+  -- the states of its record are at most 256 and no more than the kind is long; and the label memory and the working memory have a
+  -- cell for each formula and state
   abbrev pub Suffices : {K : Type 0} → (reach : ℕ) → Monitor R G D → (labels work : List K) → Type 0
   Suffices reach m labels work =
-      Short (length (states_of m)) reach × Roomy (length (formulas_of (table_of m).draft) * length (states_of m)) (length labels) (length work)
+      Short (length (states_of m)) reach × Roomy (length (formulas_in (table_of m)) * length (states_of m)) (length labels) (length work)
 
 -- every verdict that a monitor gives is read in the cells too, at its point: true where both readings hold, false where
 -- neither does, unknown where only the weak one does

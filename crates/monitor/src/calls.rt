@@ -1,5 +1,5 @@
 // The calls of a monitor.
-ghost use Rattle.std.specs.Prelude.{◌≡◌, ◌<◌, ◌≤◌, true, false, ◌⊎◌, [], ◌∷◌, ◌++◌, length, is_ok, Some, None, Ok, MatchResult};
+ghost use Rattle.std.specs.Prelude.{◌≡◌, ◌<◌, ◌≤◌, true, false, ◌⊎◌, [], ◌∷◌, ◌++◌, length, is_ok, Some, None, Ok, Err, MatchResult};
 ghost use Rattle.refusals.specs.declared.Refusal.TheVariants.{ForeignRecord, NoSuchName};
 ghost use Rattle.answers.specs.declared.types.Answer.TheVariants.{Number, Reads, Stands, Counts, Tells};
 ghost use Rattle.answers.specs.declared.types.Call.TheVariants.{Append, LabelAt, StandingAt, TallyOf, NoticeOf};
@@ -154,7 +154,8 @@ impl<R: Growing> Monitor<R> {
 
     // What a call would be answered now, without carrying it out.
     pub fn ask(&self, call: Call) -> Result<Answer, Refusal>
-        ensures { result ≡ reply_of self.now call }
+        ensures told { result ≡ reply_of self.now call }
+        ensures foreign { (Own self.now → ⊥) → result ≡ Err ForeignRecord }
     {
         match call {
             Call::Append(state) => self.number_of(state).map(Answer::Number),
@@ -180,6 +181,7 @@ impl<R: Growing> Monitor<R> {
         ensures same { is_ok result ≡ false → self.new ≡ self.old }
         ensures table { table_of self.new ≡ table_of self.old }
         ensures room { room_of self.new ≡ room_of self.old }
+        ensures ground { ground_of self.new ≡ ground_of self.old }
         ensures counted { is_ok result ≡ true → Own self.new }
         ensures own { Own self.old → Own self.new }
     {
@@ -196,6 +198,7 @@ impl<R: Growing> Monitor<R> {
         labels: &mut [K],
         work: &mut [K],
     ) -> Result<usize, Refusal>
+        ensures foreign { (Own self.now → ⊥) → result ≡ Err ForeignRecord }
         ensures whole { RecordLabelled K.reads K.reach self.now labels.old work.old result labels.new work.new }
         ensures enough { Own self.now → Suffices K.reach self.now labels.old work.old →
             result ≡ Ok (length (states_of self.now)) }

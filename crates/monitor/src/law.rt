@@ -1,6 +1,6 @@
 // The law of a live monitor.
 ghost use Rattle.monitor.specs.Live.{Own};
-ghost use Rattle.monitor.specs.Promises.{Promises};
+ghost use Rattle.monitor.specs.Promises.{Promises, AnswersPromised};
 
 use crate::live::Monitor;
 use records::growing::Growing;
@@ -12,3 +12,8 @@ impl<R: Growing> Monitor<R> {
         ensures { Own self.now → Promises self.now }
     {}
 }
+
+// The law of the answers after any lawful states.
+pub fn answers_are_promised()
+    ensures { AnswersPromised }
+{}

@@ -4,6 +4,6 @@
 pub mod book;
 pub mod calls;
 mod following;
-mod law;
+pub mod law;
 pub mod live;
 mod reading;

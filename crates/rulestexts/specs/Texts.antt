@@ -4,7 +4,7 @@ use Rattle.logic.specs.declared.types.Formula.{Formula}
 use Rattle.logic.specs.declared.types.Rule.{Rule}
 use Rattle.table.specs.declared.draft.Draft.{Draft}
 use Rattle.table.specs.declared.finished.Table.{Table}
-use Rattle.table.specs.Tables.{formulas_of, rules_of, NamesFormulas, NamesLoose, Ruled}
+use Rattle.table.specs.Tables.{formulas_of, formulas_in, rules_of, rules_in, NamesFormulas, NamesLoose, Ruled}
 use Rattle.faults.specs.declared.table.TableFault.{TableFault}
 use Rattle.faults.specs.declared.table.TableFault.TheVariants.{Dangling, Loose}
 use Rattle.faults.specs.declared.read.ReadFault.{ReadFault}
@@ -41,13 +41,13 @@ Refused text e = Stops formula_block text 1 e ⊎ RulesStop text e
 
 -- A text is taken as a table with its rules, or refused.
 abbrev pub Reads : List ℕ → Result (Taken Table) ReadFault → Type 0
-Reads text (Ok a) = Whole text (formulas_of a.value.draft) (rules_of a.value.draft) a.used
+Reads text (Ok a) = Whole text (formulas_in a.value) (rules_in a.value) a.used
 Reads text (Err e) = Refused text e
 
 -- two answers say the same
 abbrev pub Same : Result (Taken Table) ReadFault → Result (Taken Table) ReadFault → Type 0
 Same (Ok a) (Ok b) =
-    (formulas_of a.value.draft ≡ formulas_of b.value.draft) × (rules_of a.value.draft ≡ rules_of b.value.draft) × (a.used ≡ b.used)
+    (formulas_in a.value ≡ formulas_in b.value) × (rules_in a.value ≡ rules_in b.value) × (a.used ≡ b.used)
 Same (Ok a) (Err e) = ⊥
 Same (Err e) (Ok a) = ⊥
 Same (Err e) (Err f) = e ≡ f

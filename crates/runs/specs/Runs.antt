@@ -8,8 +8,7 @@ use Rattle.answers.specs.declared.types.Call.{Call}
 use Rattle.answers.specs.declared.types.Answer.{Answer}
 use Rattle.answers.specs.Law.{Ran}
 use Rattle.monitor.specs.Book.{ground_on}
-use Rattle.monitor.specs.Live.{table_of, states_of, room_of, Own}
-use Rattle.monitor.specs.Promises.{Promises}
+use Rattle.monitor.specs.Live.{table_of, states_of, room_of, ground_of}
 use Rattle.monitor.specs.declared.live.Monitor.{Monitor}
 
 -- memory that is lent for the answers has a place for each call, or has not
@@ -24,11 +23,6 @@ module _ {R : Type 0} {G : growing.Ghosts R} {D : readable.Ghosts R} where
   abbrev pub RanOn : Table → R → List Call → List (Result Answer Refusal) → Monitor R G D → Type 0
   RanOn table log calls answers m = Ran (ground_on table (G.room log)) (D.states log) calls answers (states_of m)
 
-  -- the monitor m has the table and the room that it was made over
+  -- the monitor m has the table and the room that it was made over, and so stands on the ground of these
   abbrev pub MadeOver : Table → R → Monitor R G D → Type 0
-  MadeOver table log m = (table_of m ≡ table) × (room_of m ≡ G.room log)
-
-  -- What follows if the record was empty at the start: the record is the monitor's own, and the monitor keeps its promises.
-  pub record FromEmpty (m : Monitor R G D) : Type 0 where
-    pub own : Own m
-    pub promises : Promises m
+  MadeOver table log m = (table_of m ≡ table) × (room_of m ≡ G.room log) × (ground_of m ≡ ground_on table (G.room log))

@@ -5,7 +5,8 @@ ghost use Rattle.answers.specs.Law.{Ran};
 ghost use Rattle.answers.specs.Lasting.{NeverTakenBack};
 ghost use Rattle.monitor.specs.Live.{table_of, states_of, room_of, count_of, ground_of, Own, IsNew, reply_of, states_after};
 ghost use Rattle.monitor.specs.Whole.{Suffices, RecordLabelled, Agrees};
-ghost use Rattle.runs.specs.Runs.{Enough, TooLittle, RanOn, MadeOver, FromEmpty};
+ghost use Rattle.runs.specs.Runs.{Enough, TooLittle, RanOn, MadeOver};
+ghost use Rattle.runs.specs.FromEmpty.{FromEmpty};
 
 use answers::types::{Answer, Call};
 use labels::LabelKind;
@@ -22,9 +23,11 @@ pub fn reply<R: Growing>(monitor: &mut Monitor<R>, call: Call) -> Result<Answer,
     ensures refused { is_ok result ≡ false → monitor.new ≡ monitor.old }
     ensures queries { IsQuery call → monitor.new ≡ monitor.old }
     ensures foreign { (Own monitor.old → ⊥) → monitor.new ≡ monitor.old }
+    ensures declined { (Own monitor.old → ⊥) → result ≡ Err ForeignRecord }
     ensures own { Own monitor.old → Own monitor.new }
     ensures table { table_of monitor.new ≡ table_of monitor.old }
     ensures room { room_of monitor.new ≡ room_of monitor.old }
+    ensures ground { ground_of monitor.new ≡ ground_of monitor.old }
 {
     match call {
         Call::Append(state) => monitor.append(state).map(Answer::Number),

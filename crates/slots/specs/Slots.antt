@@ -7,7 +7,7 @@ use Rattle.logic.specs.declared.types.Formula.TheVariants.{Signal, Not, Until, N
 use Rattle.logic.specs.declared.types.Rule.{Rule}
 use Rattle.logic.specs.declared.types.State.{State}
 use Rattle.logic.specs.States.{no_reference}
-use Rattle.table.specs.Tables.{formulas_of, rules_of}
+use Rattle.table.specs.Tables.{formulas_in, rules_in}
 use Rattle.table.specs.declared.defects.Defect.{Defect}
 use Rattle.table.specs.declared.finished.Table.{Table}
 
@@ -21,7 +21,7 @@ slot_rule = record { condition = 0; content = 4 }
 
 -- the table is made, and not refused
 abbrev pub SlotTable : Result Table Defect → Type 0
-SlotTable (Ok t) = (formulas_of t.draft ≡ slot_formulas) × (rules_of t.draft ≡ slot_rule ∷ [])
+SlotTable (Ok t) = (formulas_in t ≡ slot_formulas) × (rules_in t ≡ slot_rule ∷ [])
 SlotTable (Err why) = ⊥
 
 -- the state at which this signal alone is on

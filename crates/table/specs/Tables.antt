@@ -26,6 +26,16 @@ loose_of d = take d.count d.loose
 abbrev pub rules_of : Draft → List Rule
 rules_of d = take d.rule_count d.rules
 
+-- the formulas and the rules of a finished table, and of each formula whether it is loose
+abbrev pub formulas_in : Table → List Formula
+formulas_in t = formulas_of t.draft
+
+abbrev pub loose_in : Table → List Bool
+loose_in t = loose_of t.draft
+
+abbrev pub rules_in : Table → List Rule
+rules_in t = rules_of t.draft
+
 -- why a formula may not be the next one, after n formulas: the first refusal that fits
 abbrev pub FormulaDefect : (n : ℕ) → Formula → Defect → Type 0
 FormulaDefect n φ OutOfRange = (64 ≤ n) ⊎ (InRange φ → ⊥)
@@ -63,7 +73,7 @@ MakesTable formulas rules = InOrder formulas rules × (0 < length formulas) × (
 
 -- a table of exactly these formulas and rules, or their first defect
 abbrev pub Made : List Formula → List Rule → Result Table Defect → Type 0
-Made formulas rules (Ok t) = (formulas_of t.draft ≡ formulas) × (rules_of t.draft ≡ rules)
+Made formulas rules (Ok t) = (formulas_in t ≡ formulas) × (rules_in t ≡ rules)
 Made formulas rules (Err why) = FirstDefect formulas rules why
 
 -- a table is finished as it stands, or refused for want of a formula or a rule

@@ -20,7 +20,7 @@ use Rattle.answers.specs.Answers.{Ground, refusal_of}
 use Rattle.records.specs.declared.growing.Growing as growing
 use Rattle.records.specs.declared.readable.Readable as readable
 use Rattle.table.specs.declared.finished.Table.{Table}
-use Rattle.table.specs.Tables.{formulas_of, rules_of}
+use Rattle.table.specs.Tables.{formulas_in, rules_in}
 use Rattle.monitor.specs.declared.live.Monitor.{Monitor}
 use Rattle.monitor.specs.Book.{ground, ground_on}
 use Rattle.monitor.specs.Live.{states_of, ground_of}
@@ -91,7 +91,7 @@ Steps G xs text place (Err line) ys = (n : ℕ) × NotTaken G xs text n × (line
 -- with room for so many states
 abbrev pub TracedAfter : Table → (used : ℕ) → (input : List ℕ) → (room : ℕ) → List Line → Type 0
 TracedAfter table used input room lines =
-    Traced (ground_on table room) (drop used input) (length (formulas_of table.draft) + length (rules_of table.draft) + 3) lines
+    Traced (ground_on table room) (drop used input) (length (formulas_in table) + length (rules_in table) + 3) lines
 
 module _ {R : Type 0} {G : growing.Ghosts R} {D : readable.Ghosts R} where
   -- a monitor's step through one line: it was m and is n

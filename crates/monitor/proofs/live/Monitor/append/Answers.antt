@@ -1,8 +1,8 @@
-use Rattle.std.proofs.Common.{◌≡◌, ◌+◌, [], ◌∷◌, length, Ok, Option, sym, ap, ◌∙◌, length-append, arith}
+use Rattle.std.proofs.Common.{◌≡◌, ◌+◌, [], ◌∷◌, length, Ok, Option, sym, ap, ap₂, ◌∙◌, length-append, arith}
 use Rattle.refusals.specs.declared.Refusal.{Refusal}
 use Rattle.answers.specs.declared.types.Answer.TheVariants.{Number}
 use Rattle.answers.specs.Answers.{outcome}
-use Rattle.monitor.specs.Book.{ground_in}
+use Rattle.monitor.specs.Book.{ground_on, ground_in}
 use Rattle.monitor.proofs.Appending.{grown}
 use Rattle.monitor.proofs.live.Monitor.append.Goals as goal
 
@@ -42,3 +42,6 @@ returns-clause-own g c _ =
     let m = c.args.self.now in
     let now = grown m.book.count (ground_in m.book (g.R.Growing.room m.log)) (g.R.Readable.states m.log) (g.R.Readable.states c.append.new.self) c.args.state c.append.result c.in_ok-admit.ensures (λ own. (m.faithful own).lawful) c.append.ensures.appended in
     (c.follow.ensures.followed now.1.0 now.1.1).0
+
+pub returns-clause-ground : goal.returns-clause-ground
+returns-clause-ground g c = ap₂ ground_on c.follow.ensures.table c.append.ensures.kept
