@@ -1,0 +1,3 @@
+pub mod Alarms
+pub mod Following
+pub mod Deciding
