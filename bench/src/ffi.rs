@@ -32,11 +32,28 @@ extern "C" {
     fn bench_append(text: *const u8, len: usize) -> Outcome;
 }
 
-/// Puts what `watch` prints into `output`, and answers how many bytes; none if it is too short.
-pub fn watch(input: &[u8], output: &mut [u8]) -> Option<usize> {
+/// What the output of `watch` has not.
+#[derive(Debug, Clone, Copy, PartialEq, Eq)]
+pub enum Missing {
+    /// Room: the output that was lent is too short.
+    Room,
+    /// Memory to make it in.
+    Memory,
+}
+
+/// What `bench_watch` answers in place of a count.
+const NO_ROOM: usize = usize::MAX;
+const NO_MEMORY: usize = usize::MAX - 1;
+
+/// Puts what `watch` prints into `output`, and answers how many bytes.
+pub fn watch(input: &[u8], output: &mut [u8]) -> Result<usize, Missing> {
     // SAFETY: the library reads the first slice, and writes the second within its length.
     let count = unsafe { bench_watch(input.as_ptr(), input.len(), output.as_mut_ptr(), output.len()) };
-    (count != usize::MAX).then_some(count)
+    match count {
+        NO_ROOM => Err(Missing::Room),
+        NO_MEMORY => Err(Missing::Memory),
+        _ => Ok(count),
+    }
 }
 
 pub fn rules(text: &[u8]) -> Answer {

@@ -249,7 +249,7 @@ fn watching(what: &str, input: &[u8], last: &[u8]) -> Row {
     let what = format!("{what}, {} lines out", wanted.iter().filter(|&&b| b == b'\n').count());
     calls_of(
         &what,
-        || assert_eq!(ffi::watch(black_box(input), black_box(&mut output)), Some(wanted.len())),
+        || assert_eq!(ffi::watch(black_box(input), black_box(&mut output)), Ok(wanted.len())),
         || assert_eq!(black_box(watch(black_box(input))).len(), wanted.len()),
     )
 }

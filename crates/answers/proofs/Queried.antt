@@ -52,12 +52,7 @@ module _ (G : Ground) (xs : List State) where
   no_label f i c low closed at by refusal.LooseFormula h = true≢false (sym h.1 ∙ closed)
   no_label f i c low closed at by refusal.NoSuchState h = at h.2
   no_label f i c low closed at by refusal.NoSuchPoint h = by h.4
-  no_label f i c low closed at by refusal.ForeignRecord h = h
-  no_label f i c low closed at by refusal.TooManyStates h = h
-  no_label f i c low closed at by refusal.RecordFull h = h
-  no_label f i c low closed at by refusal.MemoryTooShort h = h
-  no_label f i c low closed at by (refusal.NominalTaken k) h = h
-  no_label f i c low closed at by (refusal.ReferenceUnfit k) h = h
+  no_label f i c low closed at by _ h = h
 
   labelled : (f i c : ℕ) → refusal_of G xs (LabelAt f i c) ≡ None → (why : Refusal) → LabelRefused G (length xs) f i c why → ⊥
   labelled f i c e why h =
@@ -80,13 +75,7 @@ module _ (G : Ground) (xs : List State) where
   no_standing r i c low at by refusal.NoSuchName h = omega (arith, low, h)
   no_standing r i c low at by refusal.NoSuchState h = at h.1
   no_standing r i c low at by refusal.NoSuchPoint h = by h.3
-  no_standing r i c low at by refusal.LooseFormula h = h
-  no_standing r i c low at by refusal.ForeignRecord h = h
-  no_standing r i c low at by refusal.TooManyStates h = h
-  no_standing r i c low at by refusal.RecordFull h = h
-  no_standing r i c low at by refusal.MemoryTooShort h = h
-  no_standing r i c low at by (refusal.NominalTaken k) h = h
-  no_standing r i c low at by (refusal.ReferenceUnfit k) h = h
+  no_standing r i c low at by _ h = h
 
   stood : (r i c : ℕ) → refusal_of G xs (StandingAt r i c) ≡ None → (why : Refusal) → StandingRefused G (length xs) r i c why → ⊥
   stood r i c e why h =
@@ -101,15 +90,7 @@ module _ (G : Ground) (xs : List State) where
 
   no_tally : (r : ℕ) → r < length G.rules → (why : Refusal) → TallyRefused G r why → ⊥
   no_tally r low refusal.NoSuchName h = omega (arith, low, h)
-  no_tally r low refusal.NoSuchState h = h
-  no_tally r low refusal.NoSuchPoint h = h
-  no_tally r low refusal.LooseFormula h = h
-  no_tally r low refusal.ForeignRecord h = h
-  no_tally r low refusal.TooManyStates h = h
-  no_tally r low refusal.RecordFull h = h
-  no_tally r low refusal.MemoryTooShort h = h
-  no_tally r low (refusal.NominalTaken k) h = h
-  no_tally r low (refusal.ReferenceUnfit k) h = h
+  no_tally r low _ h = h
 
   notice : (c k : ℕ) (why : Refusal) → refusal_of G xs (NoticeOf c k) ≡ Some why → NoticeRefused (length xs) c why
   notice c k why e =
@@ -117,15 +98,7 @@ module _ (G : Ground) (xs : List State) where
 
   no_notice : (c : ℕ) → (NotWithin c 1 (length xs) → ⊥) → (why : Refusal) → NoticeRefused (length xs) c why → ⊥
   no_notice c by refusal.NoSuchPoint h = by h
-  no_notice c by refusal.NoSuchName h = h
-  no_notice c by refusal.NoSuchState h = h
-  no_notice c by refusal.LooseFormula h = h
-  no_notice c by refusal.ForeignRecord h = h
-  no_notice c by refusal.TooManyStates h = h
-  no_notice c by refusal.RecordFull h = h
-  no_notice c by refusal.MemoryTooShort h = h
-  no_notice c by (refusal.NominalTaken k) h = h
-  no_notice c by (refusal.ReferenceUnfit k) h = h
+  no_notice c by _ h = h
 
 pub queries_refused_lem : (G : Ground) (xs : List State) → QueriesRefused G xs
 queries_refused_lem G xs = record {

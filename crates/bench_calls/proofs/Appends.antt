@@ -1,20 +1,13 @@
 -- One state that is appended to a monitor. Assumes nothing.
-use Rattle.std.proofs.Common.{◌≡◌, ℕ, List, [], ◌∷◌, ◌++◌, length, Ok, Err, sym, ap, ap₂, ◌∙◌}
+use Rattle.std.proofs.Common.{◌≡◌, ℕ, List, [], ◌∷◌, ◌++◌, length, Ok, Err, sym, ap, ◌∙◌}
 use Rattle.logic.specs.declared.types.State.{State}
-use Rattle.table.specs.declared.finished.Table.{Table}
-use Rattle.table.specs.Tables.{formulas_of, rules_of}
 use Rattle.refusals.specs.declared.Refusal.{Refusal}
 use Rattle.refusals.specs.Numbers.{told}
 use Rattle.answers.specs.declared.types.Call.TheVariants.{Append}
 use Rattle.answers.specs.Answers.{Ground, refusal_of, refused_by, outcome}
 use Rattle.answers.proofs.Refusing.{outcome_ok, outcome_err}
-use Rattle.monitor.specs.Book.{ground}
 use Rattle.watch_lib.proofs.Taking.{own_refusal}
 use Rattle.bench_calls.specs.Outcomes.{stopped, or_stopped, appended}
-
--- the ground of a table and a record's room
-pub same_ground : (a b : Table) (j k : ℕ) → a ≡ b → j ≡ k → ground (formulas_of a.draft) (rules_of a.draft) j ≡ ground (formulas_of b.draft) (rules_of b.draft) k
-same_ground a b j k e f = ap₂ (λ (t : Table) n. ground (formulas_of t.draft) (rules_of t.draft) n) e f
 
 module _ {A : Type 0} (G H : Ground) (same : H ≡ G) (xs left later : List State) (x : State) (own : ℕ) (v : A) (counted : own ≡ length xs) (next : left ≡ x ∷ later) where
   -- it is taken, and the others follow

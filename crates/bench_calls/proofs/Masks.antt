@@ -27,8 +27,7 @@ any = record {
   weak = 0;
   strong = 0;
   sound = λ c p. p.2;
-  stays_weak = λ c d p. bit_zero (d - 1) ∙ sym (bit_zero (c - 1));
-  stays_strong = λ c d p. bit_zero (d - 1) ∙ sym (bit_zero (c - 1));
+  settled = λ c d p. let same = bit_zero (d - 1) ∙ sym (bit_zero (c - 1)) in (same, same);
 }
 
 -- a text is labelled and the masks are put

@@ -28,14 +28,8 @@ module _ (reach most room : ℕ) (enough : 64 * reach ≤ most) where
   -- whole labelling declines as it does in all the room
   pub declined_alike : (table : List Formula) (xs : List State) (why : Refusal) → length table ≤ 64
       → Declined table xs reach (min room most) (min room most) why → Declined table xs reach room room why
-  declined_alike table xs refusal.TooManyStates few d = d
   declined_alike table xs refusal.MemoryTooShort few d =
       (d.0, λ r. d.1 (let m : length table * length xs ≤ most = total_within (length table) (length xs) few d.0.1 in (omega (arith, r.0), omega (arith, r.0))))
   declined_alike table xs (refusal.NominalTaken i) few d = (d.0, (omega (arith, d.1.0), omega (arith, d.1.0)), d.2)
   declined_alike table xs (refusal.ReferenceUnfit i) few d = (d.0, (omega (arith, d.1.0), omega (arith, d.1.0)), d.2)
-  declined_alike table xs refusal.ForeignRecord few d = d
-  declined_alike table xs refusal.RecordFull few d = d
-  declined_alike table xs refusal.NoSuchName few d = d
-  declined_alike table xs refusal.LooseFormula few d = d
-  declined_alike table xs refusal.NoSuchState few d = d
-  declined_alike table xs refusal.NoSuchPoint few d = d
+  declined_alike table xs _ few d = d

@@ -1,7 +1,7 @@
 // Appending the states of a text to a live monitor.
 ghost use Rattle.std.specs.Prelude.{◌≡◌, [], drop};
 ghost use Rattle.textrecord.specs.Listed.{states_of};
-ghost use Rattle.monitor.specs.Book.{ground_of};
+ghost use Rattle.monitor.specs.Live.{states_of as monitor_states, count_of, ground_of};
 ghost use Rattle.bench_calls.specs.Outcomes.{appended, TextAppended};
 
 use crate::outcome::Outcome;
@@ -15,9 +15,9 @@ use textrecord::text::TextRecord;
 
 // Appends the states of a trace text to a new monitor, up to the first that is refused.
 fn append_all<R: Growing>(monitor: &mut Monitor<R>, text: &[u8]) -> Outcome
-    requires fresh { monitor.old.book.count ≡ 0 }
-    requires empty { R.Readable.states monitor.old.log ≡ [] }
-    ensures { result ≡ appended (ground_of monitor.old.book (R.Growing.room monitor.old.log)) [] (states_of text.now) }
+    requires fresh { count_of monitor.old ≡ 0 }
+    requires empty { monitor_states monitor.old ≡ [] }
+    ensures { result ≡ appended (ground_of monitor.old) [] (states_of text.now) }
 {
     for state in TextRecord::new(text).states() {
         if let Err(refusal) = monitor.append(state) {

@@ -1,5 +1,5 @@
 -- Every numbered log is lawful. Assumes nothing.
-use Rattle.std.proofs.Common.{◌≡◌, ℕ, zero, suc, ◌/◌, ◌%◌, ◌<◌, ◌≤◌, cond, ◌==◌, List, length, refl, sym, ◌∙◌, ⊎_elim, arith}
+use Rattle.std.proofs.Common.{◌≡◌, ℕ, zero, suc, ◌*◌, ◌/◌, ◌%◌, ◌<◌, ◌≤◌, cond, ◌==◌, List, length, refl, sym, ◌∙◌, ⊎_elim, arith}
 use Rattle.std.proofs.lemmas.Bool.Decides.{nat_tests}
 use Rattle.logic.specs.declared.types.Formula.{Formula}
 use Rattle.logic.specs.States.{no_reference, state_at}
@@ -44,3 +44,7 @@ references_fit k (suc (suc (suc (suc i)))) one most unfit = absurd (omega arith)
 pub numbered_labellable : (table : List Formula) (k : ℕ) → length table ≤ 32 → Labellable 64 96 table (numbered k)
 numbered_labellable table k few =
     ((omega arith, omega arith), (omega arith, omega arith), λ i one most. (not_taken k i one most, references_fit k i one most))
+
+-- three states at more than 32 formulas take more than 96 cells
+pub numbered_long : (table : List Formula) (k : ℕ) → Labellable 64 96 table (numbered k) → 32 < length table → ⊥
+numbered_long table k able many = let room : length table * 3 ≤ 96 = able.1.0 in omega (arith, room, many)

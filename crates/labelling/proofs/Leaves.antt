@@ -19,35 +19,17 @@ module _ (s : Trace) (v : ℕ) (parts : ℕ → Tree) (r : Bool) (c i : ℕ) whe
   leaf_in True h k = k
   leaf_in (Signal b) h k = k
   leaf_in (Nominal a) h k = k
-  leaf_in (Not f) h k = absurd (false≢true h)
-  leaf_in (And f g) h k = absurd (false≢true h)
-  leaf_in (Or f g) h k = absurd (false≢true h)
-  leaf_in (Next f) h k = absurd (false≢true h)
-  leaf_in (Previous f) h k = absurd (false≢true h)
-  leaf_in (Until f g) h k = absurd (false≢true h)
-  leaf_in (Since f g) h k = absurd (false≢true h)
-  leaf_in (At a f) h k = absurd (false≢true h)
   leaf_in Variable h k = k
   leaf_in (Reference a) h k = k
-  leaf_in (Bind f) h k = absurd (false≢true h)
-  leaf_in (Some a f) h k = absurd (false≢true h)
+  leaf_in _ h k = absurd (false≢true h)
 
   pub leaf_out : (φ : Formula) → leaf φ ≡ true → Reads r s c v i (node φ parts) → Kept r c i (Here φ (s i) v i)
   leaf_out True h k = k
   leaf_out (Signal b) h k = k
   leaf_out (Nominal a) h k = k
-  leaf_out (Not f) h k = absurd (false≢true h)
-  leaf_out (And f g) h k = absurd (false≢true h)
-  leaf_out (Or f g) h k = absurd (false≢true h)
-  leaf_out (Next f) h k = absurd (false≢true h)
-  leaf_out (Previous f) h k = absurd (false≢true h)
-  leaf_out (Until f g) h k = absurd (false≢true h)
-  leaf_out (Since f g) h k = absurd (false≢true h)
-  leaf_out (At a f) h k = absurd (false≢true h)
   leaf_out Variable h k = k
   leaf_out (Reference a) h k = k
-  leaf_out (Bind f) h k = absurd (false≢true h)
-  leaf_out (Some a f) h k = absurd (false≢true h)
+  leaf_out _ h k = absurd (false≢true h)
 
 -- what is left of the formulas after those with parts
 pub leaf_rest : (φ : Formula) → binds φ ≡ false

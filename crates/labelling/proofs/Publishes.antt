@@ -9,12 +9,9 @@ use Rattle.logic.specs.declared.types.State.{State}
 use Rattle.logic.specs.States.{state_at}
 use Rattle.logic.specs.Logic.{Reads}
 use Rattle.logic.specs.Tables.{tree, Flagged}
-use Rattle.refusals.specs.declared.Refusal.{Refusal}
-use Rattle.refusals.specs.declared.Refusal.TheVariants as refusal
-use Rattle.lawful.specs.Unlawful.{FirstUnlawful}
 use Rattle.labelling.specs.Rows.{cell, row, Filled}
 use Rattle.labelling.specs.Bound.{ClosedTold, Published}
-use Rattle.labelling.specs.Whole.{LabelOf, place, Short, Roomy, Declined}
+use Rattle.labelling.specs.Whole.{LabelOf, place}
 use Rattle.labelling.proofs.Places.{length_row}
 use Rattle.labelling.proofs.Cells.{cell_at}
 use Rattle.labelling.proofs.Nodes.{row_below}
@@ -58,17 +55,3 @@ module _ {K : Type 0} (reads : K → Reading) (reach n : ℕ) where
             (Decides-at _ _ (reading r c ∙ (out f less).1 (flagged f less ∙ closed) (i - 1) r c (omega arith) lo hi) (told f v less closed r c i lo hi (omega arith)))),
         (λ so r c lo hi. reading r c ∙ (out f less).0 (flagged f less ∙ so) (i - 1) r c (omega arith) lo hi),
       )
-
--- an unlawful record is declined for its first unlawful state
-pub declined : (table : List Formula) (xs : List State) (reach labels work : ℕ) (why : Refusal) → Short (length xs) reach → Roomy (length table * length xs) labels work → FirstUnlawful xs why
-    → Declined table xs reach labels work why
-declined table xs reach labels work refusal.ForeignRecord short roomy u = absurd u.2
-declined table xs reach labels work refusal.TooManyStates short roomy u = absurd u.2
-declined table xs reach labels work refusal.RecordFull short roomy u = absurd u.2
-declined table xs reach labels work refusal.MemoryTooShort short roomy u = absurd u.2
-declined table xs reach labels work (refusal.NominalTaken i) short roomy u = (short, roomy, u)
-declined table xs reach labels work (refusal.ReferenceUnfit i) short roomy u = (short, roomy, u)
-declined table xs reach labels work refusal.NoSuchName short roomy u = absurd u.2
-declined table xs reach labels work refusal.LooseFormula short roomy u = absurd u.2
-declined table xs reach labels work refusal.NoSuchState short roomy u = absurd u.2
-declined table xs reach labels work refusal.NoSuchPoint short roomy u = absurd u.2

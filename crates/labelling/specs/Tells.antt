@@ -3,7 +3,7 @@ use Rattle.std.specs.Prelude.{◌≡◌, ℕ, ◌+◌, ◌<◌, ◌≤◌, min, 
 use Rattle.labels.specs.Readings.{Reading, Same, fixed}
 use Rattle.logic.specs.declared.types.State.{State}
 use Rattle.logic.specs.declared.types.Formula.{Formula}
-use Rattle.logic.specs.declared.types.Formula.TheVariants.{True, Signal, Nominal, Not, And, Or, Next, Previous, Until, Since, At, Variable, Reference, Bind, Some}
+use Rattle.logic.specs.declared.types.Formula.TheVariants.{True, Signal, Nominal, Variable, Reference}
 use Rattle.logic.specs.States.{Trace}
 use Rattle.logic.specs.Logic.{Tree, Shows, Carries, Refers, Nameless, Reads}
 use Rattle.labelling.specs.Rows.{at}
@@ -27,33 +27,15 @@ abbrev pub leaf : Formula → Bool
 leaf True = true
 leaf (Signal b) = true
 leaf (Nominal a) = true
-leaf (Not f) = false
-leaf (And f g) = false
-leaf (Or f g) = false
-leaf (Next f) = false
-leaf (Previous f) = false
-leaf (Until f g) = false
-leaf (Since f g) = false
-leaf (At a f) = false
 leaf Variable = true
 leaf (Reference a) = true
-leaf (Bind f) = false
-leaf (Some a f) = false
+leaf _ = false
 
 -- a formula without parts holds in state i, which is q, with the variable bound to v
 abbrev pub Here : Formula → State → (v i : ℕ) → Type 0
 Here True q v i = Unit {0}
 Here (Signal b) q v i = Shows q b
 Here (Nominal a) q v i = Carries q a
-Here (Not f) q v i = ⊥
-Here (And f g) q v i = ⊥
-Here (Or f g) q v i = ⊥
-Here (Next f) q v i = ⊥
-Here (Previous f) q v i = ⊥
-Here (Until f g) q v i = ⊥
-Here (Since f g) q v i = ⊥
-Here (At a f) q v i = ⊥
 Here Variable q v i = i ≡ v
 Here (Reference a) q v i = Refers q a v
-Here (Bind f) q v i = ⊥
-Here (Some a f) q v i = ⊥
+Here _ q v i = ⊥

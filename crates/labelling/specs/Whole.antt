@@ -42,12 +42,7 @@ Declined table xs reach labels work (refusal.NominalTaken i) =
     Short (length xs) reach × Roomy (length table * length xs) labels work × FirstUnlawful xs (refusal.NominalTaken i)
 Declined table xs reach labels work (refusal.ReferenceUnfit i) =
     Short (length xs) reach × Roomy (length table * length xs) labels work × FirstUnlawful xs (refusal.ReferenceUnfit i)
-Declined table xs reach labels work refusal.ForeignRecord = ⊥
-Declined table xs reach labels work refusal.RecordFull = ⊥
-Declined table xs reach labels work refusal.NoSuchName = ⊥
-Declined table xs reach labels work refusal.LooseFormula = ⊥
-Declined table xs reach labels work refusal.NoSuchState = ⊥
-Declined table xs reach labels work refusal.NoSuchPoint = ⊥
+Declined table xs reach labels work _ = ⊥
 
 -- what a whole labelling leaves, where it is not declined: the labels and the working memory of so many cells as there are
 -- formulas times states, and all later cells as they were

@@ -11,6 +11,7 @@ use labels::LabelKind;
 use lawful::first_unlawful;
 use logic::types::{MOST_STATES, State};
 use records::readable::{BLANK, Readable};
+use records::rows::Rows;
 use refusals::Refusal;
 use table::finished::Table;
 
@@ -52,7 +53,7 @@ impl<'a> Job<'a> {
     }
 }
 
-// The states of a record, put into rows, so that each is read but once from here on.
+// The states of a record, put into rows, so that each is read but once.
 fn read_states<'a, R: Readable>(log: &R, rows: &'a mut [State]) -> &'a [State]
     requires { length (R.states log.now) ≤ length rows.old }
     ensures { result.now ≡ R.states log.now }
@@ -84,10 +85,11 @@ pub fn label_whole<K: LabelKind + Copy, R: Readable>(
     if labels.len() < total || work.len() < total {
         return Err(Refusal::MemoryTooShort);
     }
-    first_unlawful(log)?;
     let mut rows = [BLANK; MOST_STATES];
+    let states = read_states(log, &mut rows);
+    first_unlawful(&Rows::new(states))?;
     let job = Job {
-        states: read_states(log, &mut rows),
+        states,
         n,
         table: formulas,
         flags: table.loose(),

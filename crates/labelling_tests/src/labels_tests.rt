@@ -4,6 +4,7 @@ use labelling::whole::label_whole;
 use labels::LabelKind;
 use labels::dated::Dated;
 use logic::types::{Formula, State};
+use records::cut::CutRecord;
 use records::rows::Rows;
 use sample_states::{named, plain, referring_second, told};
 use std::test::Fail;
@@ -112,6 +113,22 @@ fn bound_to_target(rt: HostRuntime) -> Result<(), Fail> {
         &[plain(1), plain(0), referring_second(2, 2)],
         &[-256, -255, -254],
     )
+}
+
+// The first three states are labelled; the fourth, whose nominal is taken, is not among them.
+#[test]
+fn first_states(rt: HostRuntime) -> Result<(), Fail> {
+    let table = table_of(&[Formula::Signal(0), Formula::Next(0)])?;
+    let log = [named(0, 3), plain(1), plain(0), named(0, 3)];
+    let first = CutRecord::new(Rows::new(&log), 3);
+    let mut labels = [Dated::true_from(9); 6];
+    let mut work = [Dated::true_from(9); 6];
+    assert_eq!(rt;
+        told(label_whole(&table, &first, &mut labels, &mut work)),
+        Ok(3)
+    );
+    has_values(&rt, &labels, &[-256, 255, -254, 255, -254, 0]);
+    Ok(())
 }
 
 // Loose formulas have no labels; the cells after the last label and the working memory after that keep what they held.

@@ -73,6 +73,45 @@ fn length_of_dates(rt: HostRuntime) -> Result<(), Fail> {
     Ok(())
 }
 
+// One state below the greatest length, and at it.
+#[test]
+fn last_states(rt: HostRuntime) -> Result<(), Fail> {
+    let table = table_of(&[Formula::Signal(0)])?;
+    let mut log = [plain(0); 256];
+    log[255] = plain(1);
+    let mut labels = [Dated::unknown(); 256];
+    let mut work = [Dated::unknown(); 256];
+    assert_eq!(rt;
+        told(label_whole(&table, &Rows::new(&log[..255]), &mut labels, &mut work)),
+        Ok(255)
+    );
+    assert!(rt; labels[254].value() == -2 && labels[255].value() == 0);
+    assert_eq!(rt;
+        told(label_whole(&table, &Rows::new(&log), &mut labels, &mut work)),
+        Ok(256)
+    );
+    assert!(rt; labels[254].value() == -2 && labels[255].value() == 1);
+    Ok(())
+}
+
+// A log that is too long for the kind is refused for that, and not for memory that is too short.
+#[test]
+fn length_before_memory(rt: HostRuntime) -> Result<(), Fail> {
+    let table = table_of(&PAIR)?;
+    let log = [plain(0); 65];
+    let mut labels = [Strip::unknown(); 8];
+    let mut work = [Strip::unknown(); 8];
+    assert_eq!(rt;
+        told(label_whole(&table, &Rows::new(&log), &mut labels, &mut work)),
+        Err((7, 0))
+    );
+    assert_eq!(rt;
+        told(label_whole(&table, &Rows::new(&log[..64]), &mut labels, &mut work)),
+        Err((9, 0))
+    );
+    Ok(())
+}
+
 #[test]
 fn short_memory(rt: HostRuntime) -> Result<(), Fail> {
     let log = [plain(0), plain(0), plain(0)];

@@ -2,7 +2,8 @@
 ghost use Rattle.std.specs.Prelude.{◌≡◌, ◌-◌, min, true, pos, negsuc, ◌+ℤ◌, neg_ℤ, ◌≤ℤ◌, ◌<ℤ◌};
 ghost use Rattle.labels.specs.Readings.{Same, DateOf, negated, seen};
 ghost use Rattle.labels.specs.Dated.{dated, limited_to};
-ghost use Rattle.std.proofs.Common.{rules, arith};
+ghost use Rattle.std.proofs.Common.{arith};
+ghost use Rattle.std.proofs.lemmas.Int.{ints};
 
 use super::LabelKind;
 
@@ -22,9 +23,10 @@ impl LabelKind for Dated {
 
     ghost reads = { λ x. dated x.value };
 
-    ghost sound = { first_of (Prim.search rules, Prim.grind (arith, Self.row.coded.inj)) };
+    // Both laws hold of every number, by arithmetic.
+    ghost sound = { λ x c h. Prim.grind (arith, ints) };
 
-    ghost settled = { first_of (Prim.search rules, Prim.grind (arith, Self.row.coded.inj)) };
+    ghost settled = { λ x c d h. Prim.grind (arith, ints) };
 
     fn unknown() -> Dated {
         Dated { value: 0 }

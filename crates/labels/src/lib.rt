@@ -47,6 +47,8 @@ pub trait LabelKind: Sized {
         ensures before { point ≡ 0 → result ≡ weak }
         ensures beyond { reach < point → result ≡ weak };
 
+    // Two laws of every label. A kind that keeps each of them as a ghost field gives that field, as `λ x. x.sound`; where they
+    // follow from what a label is made of, a proof of them is given.
     ghost sound: { (x : Self) → Sound reach (reads x) };
 
     ghost settled: { (x : Self) → Settled reach (reads x) };

@@ -11,14 +11,7 @@ use Rattle.refusals.specs.Numbers.{told}
 abbrev pub Unlawful : Trace → Refusal → Type 0
 Unlawful s (refusal.NominalTaken i) = NominalTaken s i
 Unlawful s (refusal.ReferenceUnfit i) = (NominalTaken s i → ⊥) × ReferenceUnfit s i
-Unlawful s refusal.ForeignRecord = ⊥
-Unlawful s refusal.TooManyStates = ⊥
-Unlawful s refusal.RecordFull = ⊥
-Unlawful s refusal.MemoryTooShort = ⊥
-Unlawful s refusal.NoSuchName = ⊥
-Unlawful s refusal.LooseFormula = ⊥
-Unlawful s refusal.NoSuchState = ⊥
-Unlawful s refusal.NoSuchPoint = ⊥
+Unlawful s _ = ⊥
 
 -- the refusal of the record's first state that is not lawful
 abbrev pub FirstUnlawful : List State → Refusal → Type 0
@@ -39,10 +32,4 @@ MayNotFollow xs x refusal.TooManyStates = 256 ≤ length xs
 MayNotFollow xs x (refusal.NominalTaken i) = (length xs < 256) × (i ≡ length xs + 1) × NominalTaken (joined xs x) i
 MayNotFollow xs x (refusal.ReferenceUnfit i) =
     (length xs < 256) × (i ≡ length xs + 1) × (NominalTaken (joined xs x) i → ⊥) × ReferenceUnfit (joined xs x) i
-MayNotFollow xs x refusal.ForeignRecord = ⊥
-MayNotFollow xs x refusal.RecordFull = ⊥
-MayNotFollow xs x refusal.MemoryTooShort = ⊥
-MayNotFollow xs x refusal.NoSuchName = ⊥
-MayNotFollow xs x refusal.LooseFormula = ⊥
-MayNotFollow xs x refusal.NoSuchState = ⊥
-MayNotFollow xs x refusal.NoSuchPoint = ⊥
+MayNotFollow xs x _ = ⊥

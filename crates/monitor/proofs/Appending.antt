@@ -38,13 +38,7 @@ module _ (own : ℕ) (G : Ground) (xs : List State) (x : State) (mine : own ≡ 
       where
         free : (NominalTaken (joined xs x) (length xs + 1) → ⊥) → taken xs x ≡ false
         free no_one = ⊎_elim (λ (t : taken xs x ≡ true). absurd (no_one ((taken_decides xs x).0 t))) (λ (t : taken xs x ≡ false). t) (cases_Bool (taken xs x))
-    refused_some refusal.ForeignRecord h = absurd h
-    refused_some refusal.RecordFull h = absurd h
-    refused_some refusal.MemoryTooShort h = absurd h
-    refused_some refusal.NoSuchName h = absurd h
-    refused_some refusal.LooseFormula h = absurd h
-    refused_some refusal.NoSuchState h = absurd h
-    refused_some refusal.NoSuchPoint h = absurd h
+    refused_some _ h = absurd h
 
     pub refused_next : (r : Result (Unit {0}) Refusal) → MatchResult r (λ _. MayFollow xs x) (λ why. MayNotFollow xs x why)
         → MatchResult r (λ _. refused_by own G xs (Append x) ≡ None) (λ why. refused_by own G xs (Append x) ≡ Some why)

@@ -46,9 +46,4 @@ not_declined table xs labels work few small law wl ww refusal.TooManyStates d = 
 not_declined table xs labels work few small law wl ww refusal.MemoryTooShort d = let p = enough (length table) (length xs) few small in d.1 (omega arith, omega arith)
 not_declined table xs labels work few small law wl ww (refusal.NominalTaken i) d = let u = d.2 in (law i u.0 u.1).0 u.2
 not_declined table xs labels work few small law wl ww (refusal.ReferenceUnfit i) d = let u = d.2 in (law i u.0 u.1).1 u.2.1
-not_declined table xs labels work few small law wl ww refusal.ForeignRecord d = d
-not_declined table xs labels work few small law wl ww refusal.RecordFull d = d
-not_declined table xs labels work few small law wl ww refusal.NoSuchName d = d
-not_declined table xs labels work few small law wl ww refusal.LooseFormula d = d
-not_declined table xs labels work few small law wl ww refusal.NoSuchState d = d
-not_declined table xs labels work few small law wl ww refusal.NoSuchPoint d = d
+not_declined table xs labels work few small law wl ww _ d = d

@@ -1,5 +1,5 @@
 -- What a monitor's memory says.
-use Rattle.std.specs.Prelude.{◌≡◌, ℕ, ◌+◌, ◌-◌, ◌*◌, ◌<◌, ◌≤◌, false, List, length, Some, None, Option, slice_index_or}
+use Rattle.std.specs.Prelude.{◌≡◌, ℕ, ◌+◌, ◌-◌, ◌*◌, ◌^◌, ◌<◌, ◌≤◌, true, false, ◌⊎◌, List, length, Some, None, Option, slice_index_or}
 use Rattle.std.specs.List.{slice_get}
 use Rattle.logic.specs.declared.types.Formula.{Formula}
 use Rattle.logic.specs.declared.types.Rule.{Rule}
@@ -7,9 +7,12 @@ use Rattle.logic.specs.declared.types.State.{State}
 use Rattle.logic.specs.Lawful.{LawfulRecord}
 use Rattle.logic.specs.Tables.{no_rule, tree, loose}
 use Rattle.labels.specs.declared.dated.Dated.{Dated}
+use Rattle.refusals.specs.declared.Refusal.{Refusal}
+use Rattle.refusals.specs.declared.Refusal.TheVariants as refusal
 use Rattle.table.specs.Tables.{formulas_of, rules_of}
 use Rattle.table.specs.declared.finished.Table.{Table}
 use Rattle.expectations.specs.declared.types.Label.{Label}
+use Rattle.expectations.specs.declared.types.Tally.{Tally}
 use Rattle.expectations.specs.declared.types.Label.TheVariants.{Unknown}
 use Rattle.expectations.specs.Expectations.{Labels, no_tally, tallied}
 use Rattle.growth.specs.Growth.{label_of_number, labels_of}
@@ -21,6 +24,20 @@ formulas_in b = formulas_of b.table.draft
 
 abbrev pub rules_in : Book → List Rule
 rules_in b = rules_of b.table.draft
+
+-- f is a formula of the table that is not loose
+abbrev pub IsClosed : Book → (f : ℕ) → Type 0
+IsClosed b f = (f < length (formulas_in b)) × (loose (formulas_in b) f ≡ false)
+
+-- why it is none: the first refusal that fits
+abbrev pub NotClosed : Book → (f : ℕ) → Refusal → Type 0
+NotClosed b f why =
+    ((why ≡ refusal.NoSuchName) × (length (formulas_in b) ≤ f)) ⊎
+    ((why ≡ refusal.LooseFormula) × (f < length (formulas_in b)) × (loose (formulas_in b) f ≡ true))
+
+-- the table's rule with number r
+abbrev pub IsRule : Book → (r : ℕ) → Rule → Type 0
+IsRule b r rule = (r < length (rules_in b)) × (rule ≡ slice_index_or (rules_in b) r no_rule)
 
 -- the label in a cell
 abbrev pub label_in : Option Dated → Label
@@ -34,9 +51,17 @@ cell_at xs k = label_in (slice_get xs k)
 abbrev pub held : Book → Labels
 held b f i = cell_at b.cells (f * b.count + (i - 1))
 
+-- rule r's tally, counted by the labels that the cells hold, as the last point reads it
+abbrev pub tally_in : Book → (r : ℕ) → Tally
+tally_in b r = tallied (held b) (slice_index_or (rules_in b) r no_rule) b.count b.count
+
+-- no count of it is near the last number, so that one more standing is counted
+abbrev pub Countable : Tally → Type 0
+Countable t = (t.raised < 2 ^ 32) × ((t.pending < 2 ^ 32) × ((t.fulfilled < 2 ^ 32) × (t.violated < 2 ^ 32)))
+
 -- the first m tallies count their rules' expectations as the last point reads them
 abbrev pub TalliesRight : Book → (m : ℕ) → Type 0
-TalliesRight b m = (k : ℕ) → k < m → slice_index_or b.tallies k no_tally ≡ tallied (held b) (slice_index_or (rules_in b) k no_rule) b.count b.count
+TalliesRight b m = (k : ℕ) → k < m → slice_index_or b.tallies k no_tally ≡ tally_in b k
 
 -- all but the tallies is the same
 abbrev pub SameButTallies : Book → Book → Type 0
@@ -47,6 +72,10 @@ pub record Right (xs : List State) (b : Book) : Type 0 where
   pub lawful : LawfulRecord xs
   pub labels : (f i : ℕ) → f < length (formulas_in b) → loose (formulas_in b) f ≡ false → 1 ≤ i → i ≤ length xs → held b f i ≡ labels_of (formulas_in b) xs f i
   pub tallies : TalliesRight b (length (rules_in b))
+
+-- the memory has followed a record to the states xs: it has labelled each of them, and is right of them
+abbrev pub Follows : List State → Book → Type 0
+Follows xs b = (b.count ≡ length xs) × Right xs b
 
 -- while the record's count is the monitor's, the memory is right of the record's states
 abbrev pub Faithful : List State → Book → Type 0

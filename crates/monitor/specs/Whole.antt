@@ -34,10 +34,10 @@ module _ {R : Type 0} {G : growing.Ghosts R} {D : readable.Ghosts R} where
   RecordLabelled reads reach m old oldWork result new newWork =
       WholeAnswered reads reach (count_of m) (formulas_of (table_of m).draft) (states_of m) old oldWork result new newWork
 
-  -- the kind is long enough for the states of its record, and memory of so many label cells and working cells for their labels
-  abbrev pub Suffices : (reach : ℕ) → Monitor R G D → (labels work : ℕ) → Type 0
+  -- the kind is long enough for the states of its record, and the label memory and the working memory for their labels
+  abbrev pub Suffices : {K : Type 0} → (reach : ℕ) → Monitor R G D → (labels work : List K) → Type 0
   Suffices reach m labels work =
-      Short (length (states_of m)) reach × Roomy (length (formulas_of (table_of m).draft) * length (states_of m)) labels work
+      Short (length (states_of m)) reach × Roomy (length (formulas_of (table_of m).draft) * length (states_of m)) (length labels) (length work)
 
 -- every verdict that a monitor gives is read in the cells too, at its point: true where both readings hold, false where
 -- neither does, unknown where only the weak one does

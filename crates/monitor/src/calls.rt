@@ -1,12 +1,11 @@
 // The calls of a monitor.
-ghost use Rattle.std.specs.Prelude.{◌≡◌, ℕ, ◌+◌, ◌<◌, ◌≤◌, true, false, ◌⊎◌, length, is_ok, Some, None, Ok, MatchResult, ◌≢◌, slice_index_or};
-ghost use Rattle.logic.specs.Tables.{no_rule, loose as is_loose};
-ghost use Rattle.refusals.specs.declared.Refusal.TheVariants.{ForeignRecord, NoSuchName, LooseFormula};
+ghost use Rattle.std.specs.Prelude.{◌≡◌, ◌<◌, ◌≤◌, true, false, ◌⊎◌, [], ◌∷◌, ◌++◌, length, is_ok, Some, None, Ok, MatchResult};
+ghost use Rattle.refusals.specs.declared.Refusal.TheVariants.{ForeignRecord, NoSuchName};
 ghost use Rattle.answers.specs.declared.types.Answer.TheVariants.{Number, Reads, Stands, Counts, Tells};
 ghost use Rattle.answers.specs.declared.types.Call.TheVariants.{Append, LabelAt, StandingAt, TallyOf, NoticeOf};
-ghost use Rattle.answers.specs.Answers.{as_answer, refused_by};
-ghost use Rattle.monitor.specs.Book.{formulas_in, rules_in};
-ghost use Rattle.monitor.specs.Live.{table_of, states_of, room_of, count_of, ground_of, Own, IsNew, unless_refused, reply_of, verdict_at, standing_at, tally_at, notice_at, states_after};
+ghost use Rattle.answers.specs.Answers.{as_answer};
+ghost use Rattle.monitor.specs.Book.{rules_in, IsClosed, NotClosed, IsRule};
+ghost use Rattle.monitor.specs.Live.{table_of, states_of, room_of, ground_of, Own, refusal_at, IsNew, label_answer, standing_answer, tally_answer, notice_answer, append_answer, reply_of, states_after};
 ghost use Rattle.monitor.specs.Whole.{Suffices, RecordLabelled, Agrees};
 
 use crate::book::Book;
@@ -38,8 +37,7 @@ fn within(i: usize, low: usize, high: usize, refusal: Refusal) -> Result<(), Ref
 impl Book {
     // Refuses a number that names no formula of the table, or a loose one.
     fn closed_formula(&self, formula: usize) -> Result<(), Refusal>
-        ensures { MatchResult result (λ _. (formula < length (formulas_in self.now)) × (is_loose (formulas_in self.now) formula ≡ false))
-            (λ why. ((why ≡ NoSuchName) × (length (formulas_in self.now) ≤ formula)) ⊎ ((why ≡ LooseFormula) × (formula < length (formulas_in self.now)) × (is_loose (formulas_in self.now) formula ≡ true))) }
+        ensures { MatchResult result (λ _. IsClosed self.now formula) (NotClosed self.now formula) }
     {
         match self.table.loose().get(formula) {
             None => Err(Refusal::NoSuchName),
@@ -50,8 +48,7 @@ impl Book {
 
     // The rule with a number, if the table has one.
     fn rule(&self, r: usize) -> Result<Rule, Refusal>
-        ensures { MatchResult result (λ rule. (r < length (rules_in self.now)) × (rule ≡ slice_index_or (rules_in self.now) r no_rule))
-            (λ why. (why ≡ NoSuchName) × (length (rules_in self.now) ≤ r)) }
+        ensures { MatchResult result (IsRule self.now r) (λ why. (why ≡ NoSuchName) × (length (rules_in self.now) ≤ r)) }
     {
         self.table
             .rules()
@@ -74,7 +71,8 @@ impl<R: Growing> Monitor<R> {
 
     // How many states there are, if the record's count is the monitor's.
     fn own_count(&self) -> Result<usize, Refusal>
-        ensures { MatchResult result (λ n. (n ≡ length (states_of self.now)) × Own self.now) (λ why. (why ≡ ForeignRecord) × (Own self.now → ⊥)) }
+        ensures { MatchResult result (λ n. (n ≡ length (states_of self.now)) × Own self.now)
+            (λ why. (why ≡ ForeignRecord) × (Own self.now → ⊥)) }
     {
         let n = self.log.count();
         if n == self.book.count {
@@ -86,7 +84,7 @@ impl<R: Growing> Monitor<R> {
 
     // The label of a formula at a state, as a truncation point reads it.
     pub fn label(&self, formula: usize, state: usize, point: usize) -> Result<Verdict, Refusal>
-        ensures is { result ≡ unless_refused self.now (LabelAt formula state point) (verdict_at self.now formula state point) }
+        ensures is { result ≡ label_answer self.now formula state point }
         ensures told { as_answer Reads result ≡ reply_of self.now (LabelAt formula state point) }
     {
         let n = self.own_count()?;
@@ -98,7 +96,7 @@ impl<R: Growing> Monitor<R> {
 
     // What has become of the rule's expectation of a state, as a truncation point reads it.
     pub fn standing(&self, rule: usize, state: usize, point: usize) -> Result<Standing, Refusal>
-        ensures is { result ≡ unless_refused self.now (StandingAt rule state point) (standing_at self.now rule state point) }
+        ensures is { result ≡ standing_answer self.now rule state point }
         ensures told { as_answer Stands result ≡ reply_of self.now (StandingAt rule state point) }
     {
         let n = self.own_count()?;
@@ -115,7 +113,7 @@ impl<R: Growing> Monitor<R> {
 
     // The tally of a rule, as the last accepted point reads it.
     pub fn tally(&self, rule: usize) -> Result<Tally, Refusal>
-        ensures is { result ≡ unless_refused self.now (TallyOf rule) (tally_at self.now rule) }
+        ensures is { result ≡ tally_answer self.now rule }
         ensures told { as_answer Counts result ≡ reply_of self.now (TallyOf rule) }
     {
         self.own_count()?;
@@ -125,7 +123,7 @@ impl<R: Growing> Monitor<R> {
 
     // The notice of a truncation point with a number, counted from 0, or none.
     pub fn notice(&self, point: usize, k: usize) -> Result<Option<Notice>, Refusal>
-        ensures is { result ≡ unless_refused self.now (NoticeOf point k) (notice_at self.now point k) }
+        ensures is { result ≡ notice_answer self.now point k }
         ensures told { as_answer Tells result ≡ reply_of self.now (NoticeOf point k) }
     {
         let n = self.own_count()?;
@@ -135,8 +133,7 @@ impl<R: Growing> Monitor<R> {
 
     // The refusal that fits an append first, if there is one.
     fn admit(&self, state: State) -> Result<(), Refusal>
-        ensures { MatchResult result (λ _. refused_by (count_of self.now) (ground_of self.now) (states_of self.now) (Append state) ≡ None)
-            (λ why. refused_by (count_of self.now) (ground_of self.now) (states_of self.now) (Append state) ≡ Some why) }
+        ensures { MatchResult result (λ _. refusal_at self.now (Append state) ≡ None) (λ why. refusal_at self.now (Append state) ≡ Some why) }
     {
         let n = self.own_count()?;
         if n >= MOST_STATES {
@@ -176,8 +173,9 @@ impl<R: Growing> Monitor<R> {
     // That the table and the record's room stay is said in two clauses, here and of each function that changes a monitor,
     // since the monitor is lent to each.
     pub fn append(&mut self, state: State) -> Result<usize, Refusal>
-        ensures is { result ≡ unless_refused self.old (Append state) (length (states_of self.old) + 1) }
+        ensures is { result ≡ append_answer self.old state }
         ensures told { as_answer Number result ≡ reply_of self.old (Append state) }
+        ensures taken { is_ok result ≡ true → states_of self.new ≡ states_of self.old ++ state ∷ [] }
         ensures states { states_of self.new ≡ states_after self.old (Append state) }
         ensures same { is_ok result ≡ false → self.new ≡ self.old }
         ensures table { table_of self.new ≡ table_of self.old }
@@ -199,7 +197,7 @@ impl<R: Growing> Monitor<R> {
         work: &mut [K],
     ) -> Result<usize, Refusal>
         ensures whole { RecordLabelled K.reads K.reach self.now labels.old work.old result labels.new work.new }
-        ensures enough { Own self.now → Suffices K.reach self.now (length labels.old) (length work.old) → result ≡ Ok (length (states_of self.now)) }
+        ensures enough { Own self.now → Suffices K.reach self.now labels.old work.old → result ≡ Ok (length (states_of self.now)) }
         ensures agrees { is_ok result ≡ true → Agrees K.reads (ground_of self.now) (states_of self.now) labels.new }
     {
         self.own_count()?;

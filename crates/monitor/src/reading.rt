@@ -4,7 +4,7 @@ ghost use Rattle.std.specs.List.{slice_get, flat_map};
 ghost use Rattle.std.specs.Option.{option_to_list};
 ghost use Rattle.logic.specs.Tables.{no_rule};
 ghost use Rattle.expectations.specs.Expectations.{raises, standing as standing_of, tallied, added, of_state, notices};
-ghost use Rattle.monitor.specs.Book.{held, rules_in, SameButTallies, TalliesRight};
+ghost use Rattle.monitor.specs.Book.{held, rules_in, tally_in, Countable, SameButTallies, TalliesRight};
 
 use crate::book::Book;
 use expectations::reading::{is_false_from, is_true_from, judge};
@@ -14,7 +14,7 @@ use logic::types::Rule;
 
 // Counts one more standing. A tally counts at most 256; any bound below the last `usize` serves, so that no count wraps.
 fn count_one(t: &mut Tally, standing: Standing)
-    requires { (t.old.raised < 2 ^ 32) × ((t.old.pending < 2 ^ 32) × ((t.old.fulfilled < 2 ^ 32) × (t.old.violated < 2 ^ 32))) }
+    requires { Countable t.old }
     ensures { t.new ≡ added standing t.old }
 {
     match standing {
@@ -115,7 +115,7 @@ impl Book {
     // The tally of rule r as the last point reads it, counted from the labels.
     fn tally_of(&self, r: usize) -> Tally
         requires { r < length (rules_in self.now) }
-        ensures { result ≡ tallied (held self.now) (slice_index_or (rules_in self.now) r no_rule) self.now.count self.now.count }
+        ensures { result ≡ tally_in self.now r }
     {
         let rule = self.table.rules()[r];
         let mut t = Tally::default();

@@ -13,3 +13,5 @@ mod limits_tests;
 mod refusals_tests;
 #[cfg(test)]
 mod samples;
+#[cfg(test)]
+mod told_tests;

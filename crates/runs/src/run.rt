@@ -68,7 +68,8 @@ pub fn call_all<R: Growing>(
     calls: &[Call],
     answers: &mut [Result<Answer, Refusal>],
 ) -> Called<R>
-    ensures refused { TooLittle calls.now answers.old → (result.answered ≡ Err MemoryTooShort) × IsNew table log result.monitor }
+    ensures refused { TooLittle calls.now answers.old → result.answered ≡ Err MemoryTooShort }
+    ensures uncalled { TooLittle calls.now answers.old → IsNew table log result.monitor }
     ensures unused { TooLittle calls.now answers.old → answers.new ≡ answers.old }
     ensures answered { Enough calls.now answers.old → result.answered ≡ Ok (length calls.now) }
     ensures ran { Enough calls.now answers.old → RanOn table log calls.now answers.new result.monitor }
@@ -110,7 +111,8 @@ pub fn run<K: LabelKind + Copy, R: Growing>(
     labels: &mut [K],
     work: &mut [K],
 ) -> Outcome<R>
-    ensures refused { TooLittle calls.now answers.old → (result.answered ≡ Err MemoryTooShort) × IsNew table log result.monitor }
+    ensures refused { TooLittle calls.now answers.old → result.answered ≡ Err MemoryTooShort }
+    ensures uncalled { TooLittle calls.now answers.old → IsNew table log result.monitor }
     ensures unused { TooLittle calls.now answers.old → answers.new ≡ answers.old }
     ensures answered { Enough calls.now answers.old → result.answered ≡ Ok (length calls.now) }
     ensures ran { Enough calls.now answers.old → RanOn table log calls.now answers.new result.monitor }
@@ -119,10 +121,14 @@ pub fn run<K: LabelKind + Copy, R: Growing>(
     ensures made { MadeOver table log result.monitor }
     ensures foreign { 0 < length (R.Readable.states log) → IsNew table log result.monitor }
     ensures empty { length (R.Readable.states log) ≡ 0 → FromEmpty result.monitor }
-    ensures unlabelled { TooLittle calls.now answers.old → (result.labelled ≡ Err MemoryTooShort) × (labels.new ≡ labels.old) × (work.new ≡ work.old) }
-    ensures whole { Enough calls.now answers.old → RecordLabelled K.reads K.reach result.monitor labels.old work.old result.labelled labels.new work.new }
-    ensures enough { Enough calls.now answers.old → Own result.monitor → Suffices K.reach result.monitor (length labels.old) (length work.old) → result.labelled ≡ Ok (length (states_of result.monitor)) }
-    ensures agrees { Enough calls.now answers.old → is_ok result.labelled ≡ true → Agrees K.reads (ground_of result.monitor) (states_of result.monitor) labels.new }
+    ensures unlabelled { TooLittle calls.now answers.old → result.labelled ≡ Err MemoryTooShort }
+    ensures unwritten { TooLittle calls.now answers.old → (labels.new ≡ labels.old) × (work.new ≡ work.old) }
+    ensures whole { Enough calls.now answers.old →
+        RecordLabelled K.reads K.reach result.monitor labels.old work.old result.labelled labels.new work.new }
+    ensures enough { Enough calls.now answers.old → Own result.monitor →
+        Suffices K.reach result.monitor labels.old work.old → result.labelled ≡ Ok (length (states_of result.monitor)) }
+    ensures agrees { Enough calls.now answers.old → is_ok result.labelled ≡ true →
+        Agrees K.reads (ground_of result.monitor) (states_of result.monitor) labels.new }
 {
     let called = call_all(table, log, calls, answers);
     let labelled = match called.answered {

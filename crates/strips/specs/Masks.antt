@@ -9,10 +9,6 @@ bit n k = n / 2 ^ k % 2 == 1
 abbrev pub strip : ℕ → ℕ → Reading
 strip weak strong e c = bit (cond e weak strong) (c - 1)
 
--- one reading stays as it is at a point where both agree
-abbrev pub Stays : Bool → ℕ → Reading → Type 0
-Stays e n f = (c d : ℕ) → (0 < c) × (c ≤ d) × (d ≤ n) × (f true c ≡ f false c) → f e d ≡ f e c
-
 -- what is true at a point from 1 to n is true by point m
 abbrev pub TrueBy : ℕ → ℕ → Reading → Type 0
 TrueBy m n f = (c : ℕ) → 0 < c → c ≤ n → f false c ≡ true → f false m ≡ true

@@ -3,10 +3,9 @@
 
 ghost use Rattle.std.specs.Prelude.{◌≡◌, ℕ, ◌+◌, ◌-◌, ◌^◌, ◌<◌, ◌≤◌, min, true, false, nat_lt, ◌==◌};
 ghost use Rattle.std.specs.Int.Count.{count_trailing_zeros};
-ghost use Rattle.labels.specs.Readings.{Same, Sound, DateOf, fixed, negated, both, either, seen};
+ghost use Rattle.labels.specs.Readings.{Same, Sound, Settled, DateOf, fixed, negated, both, either, seen};
 ghost use Rattle.labels.specs.Dated.{dated};
-ghost use Rattle.strips.specs.Masks.{strip, bit, Stays, TrueBy};
-ghost use Rattle.std.proofs.Common.{rules, arith};
+ghost use Rattle.strips.specs.Masks.{strip, bit, TrueBy};
 
 use labels::LabelKind;
 use labels::dated::Dated;
@@ -20,8 +19,7 @@ pub struct Strip {
     weak: u64,
     strong: u64,
     ghost sound: { Sound 64 (strip weak strong) },
-    ghost stays_weak: { Stays true 64 (strip weak strong) },
-    ghost stays_strong: { Stays false 64 (strip weak strong) },
+    ghost settled: { Settled 64 (strip weak strong) },
 }
 
 impl LabelKind for Strip {
@@ -29,9 +27,9 @@ impl LabelKind for Strip {
 
     ghost reads = { λ x. strip x.weak x.strong };
 
-    ghost sound = { first_of (Prim.search rules, Prim.grind (arith, Self.row.coded.inj)) };
+    ghost sound = { λ x. x.sound };
 
-    ghost settled = { first_of (Prim.search rules, Prim.grind (arith, Self.row.coded.inj)) };
+    ghost settled = { λ x. x.settled };
 
     // Its weak mask is all ones and its strong mask is 0.
     fn unknown() -> Strip {

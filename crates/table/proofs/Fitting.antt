@@ -5,7 +5,7 @@ use Rattle.logic.specs.declared.types.Formula.{Formula}
 use Rattle.logic.specs.declared.types.Rule.{Rule}
 use Rattle.logic.specs.Tables.{loose}
 use Rattle.table.specs.declared.defects.Defect.{Defect}
-use Rattle.table.specs.declared.defects.Defect.TheVariants.{OutOfRange, PartNotBelow, NoSuchFormula, LooseRule}
+use Rattle.table.specs.declared.defects.Defect.TheVariants.{OutOfRange, NoSuchFormula, LooseRule}
 use Rattle.table.specs.Tables.{NamesLoose, Ruled, RuleDefect}
 
 pub not_loose : (formulas : List Formula) (r : Rule) → Ruled formulas r → NamesLoose formulas r → ⊥
@@ -16,9 +16,9 @@ not_loose formulas r a x =
 
 fits : (formulas : List Formula) (m : ℕ) (r : Rule) (why : Defect) → m < 16 → Ruled formulas r → RuleDefect formulas m r why → ⊥
 fits formulas m r OutOfRange h a d = omega (arith, d)
-fits formulas m r PartNotBelow h a d = d
 fits formulas m r NoSuchFormula h a d = d.1 a.0
 fits formulas m r LooseRule h a d = not_loose formulas r a d.2
+fits formulas m r _ h a d = d
 
 -- the same of formulas and a rule that are known by equations
 pub not_refused : (formulas known : List Formula) (m : ℕ) (rule r : Rule) (why : Defect) →

@@ -30,15 +30,14 @@ rules_of d = take d.rule_count d.rules
 abbrev pub FormulaDefect : (n : ℕ) → Formula → Defect → Type 0
 FormulaDefect n φ OutOfRange = (64 ≤ n) ⊎ (InRange φ → ⊥)
 FormulaDefect n φ PartNotBelow = (n < 64) × InRange φ × (EachPart (λ g. g < n) φ → ⊥)
-FormulaDefect n φ NoSuchFormula = ⊥
-FormulaDefect n φ LooseRule = ⊥
+FormulaDefect n φ _ = ⊥
 
 -- why a rule may not be the next one, after m rules
 abbrev pub RuleDefect : List Formula → (m : ℕ) → Rule → Defect → Type 0
 RuleDefect formulas m rule OutOfRange = 16 ≤ m
-RuleDefect formulas m rule PartNotBelow = ⊥
 RuleDefect formulas m rule NoSuchFormula = (m < 16) × (NamesFormulas formulas rule → ⊥)
 RuleDefect formulas m rule LooseRule = (m < 16) × NamesFormulas formulas rule × NamesLoose formulas rule
+RuleDefect formulas m rule _ = ⊥
 
 -- a formula is added at the end and answered with its number, or refused and nothing changes
 abbrev pub FormulaAdded : Draft → Formula → Result ℕ Defect → Draft → Type 0
@@ -71,6 +70,4 @@ Made formulas rules (Err why) = FirstDefect formulas rules why
 abbrev pub Finished : Draft → Result Table Defect → Type 0
 Finished d (Ok t) = t.draft ≡ d
 Finished d (Err OutOfRange) = (length (formulas_of d) ≡ 0) ⊎ (length (rules_of d) ≡ 0)
-Finished d (Err PartNotBelow) = ⊥
-Finished d (Err NoSuchFormula) = ⊥
-Finished d (Err LooseRule) = ⊥
+Finished d (Err _) = ⊥

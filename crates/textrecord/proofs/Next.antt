@@ -4,19 +4,20 @@ use Rattle.std.proofs.lemmas.Bool.{cases_Bool, cond-true, cond-false}
 use Rattle.logic.specs.declared.types.State.{State}
 use Rattle.faults.specs.declared.line.LineFault.{LineFault}
 use Rattle.fields.specs.declared.lines.Taken.{Taken}
-use Rattle.fields.specs.Kinds.{Takes, Refuses}
-use Rattle.traces.specs.Traces.{trace_kind, Reads}
-use Rattle.traces.proofs.Unique.{fit_or_refused}
+use Rattle.fields.specs.Kinds.{Refuses}
+use Rattle.traces.specs.Traces.{trace_kind}
+use Rattle.traces.specs.Meanings.{StateTaken, Reads}
+use Rattle.traces.proofs.Unique.{passing, fit_or_refused}
 use Rattle.textrecord.specs.Listed.{before, state_in, passes, states_from}
 use Rattle.textrecord.proofs.Passing.{Seen, seen, tested}
 
 -- a line that is taken shows the first of the states
-pub first_left : (count : ℕ) (text : List ℕ) (q : State) (used : ℕ) → Takes (trace_kind count) text (count + 1, q) used
+pub first_left : (count : ℕ) (text : List ℕ) (q : State) (used : ℕ) → StateTaken text count q used
     → states_from (256 - count) count text ≡ q ∷ states_from (256 - (count + 1)) (count + 1) (drop used text)
 unfolding states_from
 first_left count text q used t =
-    let s : Seen count q text (drop used text) = seen count q text (drop used text) t.fits in
-    let e : 256 - count ≡ suc (256 - (count + 1)) = omega (arith, t.fits.ranged.1.number) in
+    let s : Seen count q text (drop used text) = seen count q text (drop used text) (passing text count q used t) in
+    let e : 256 - count ≡ suc (256 - (count + 1)) = omega (arith, t.takes.fits.ranged.next, t.takes.fits.ranged.state) in
     ap (λ z. states_from z count text) e ∙ cond-true (passes count text) _ _ s.test
     ∙ ap (λ z. z ∷ states_from (256 - (count + 1)) (count + 1) (drop (length (before 10 text) + 1) text)) s.state
     ∙ ap (λ z. q ∷ states_from (256 - (count + 1)) (count + 1) z) s.after
@@ -33,8 +34,8 @@ none_left count text e r =
     none_from (256 - count) count text (λ h. fit_or_refused count (state_in (before 10 text)) text _ e (tested count text h) r)
 
 -- the same of what a text is read as
-pub taken_next : (count : ℕ) (text : List ℕ) (r : Result (Taken State) LineFault) (a : Taken State) → Reads text count r → Some a ≡ result_ok r → Takes (trace_kind count) text (count + 1, a.value) a.used
-taken_next count text (Ok b) a h e = let g : b ≡ a = cc in subst (λ z. Takes (trace_kind count) text (count + 1, z.value) z.used) g h
+pub taken_next : (count : ℕ) (text : List ℕ) (r : Result (Taken State) LineFault) (a : Taken State) → Reads text count r → Some a ≡ result_ok r → StateTaken text count a.value a.used
+taken_next count text (Ok b) a h e = let g : b ≡ a = cc in subst (λ z. StateTaken text count z.value z.used) g h
 taken_next count text (Err f) a h e = let n : ⊥ = cc in absurd n
 
 pub none_next : (count : ℕ) (text : List ℕ) (r : Result (Taken State) LineFault) → Reads text count r → None ≡ result_ok r → states_from (256 - count) count text ≡ []

@@ -4,8 +4,10 @@ use Rattle.std.proofs.lemmas.Bool.{eq-eqb, ne_eqb, eqb-true, leb-true, ltb-true,
 use Rattle.logic.specs.declared.types.State.{State}
 use Rattle.fields.specs.Lines.{Free, FirstLine, line_limit, number_limit}
 use Rattle.fields.specs.Runs.{Run}
-use Rattle.traces.specs.Traces.{trace_line, Formed, Allowed}
-use Rattle.textrecord.specs.Listed.{Passes, before, state_in, same_bytes, allowed, passes, states_from}
+use Rattle.traces.specs.declared.numbers.Numbers.{Numbers}
+use Rattle.traces.specs.Traces.{trace_line, Formed, Ranged}
+use Rattle.traces.specs.Meanings.{meaning, Passes}
+use Rattle.textrecord.specs.Listed.{before, numbers_in, state_in, same_bytes, in_range, passes, states_from}
 use Rattle.textrecord.proofs.Extract.{extracted}
 
 -- ── the bytes before the first byte 10 ──
@@ -58,17 +60,19 @@ same_true (x ∷ xs) (y ∷ ys) e =
     let t : xs ≡ ys = same_true xs ys p.1 in
     cc (h, t)
 
-allowed_true : (i : ℕ) (q : State) → allowed i q ≡ true → Allowed i q
-unfolding allowed
-allowed_true i q e =
-    let p1 = and_parts (leb i 256) _ e in
-    let p2 = and_parts (leb q.signals number_limit) _ p1.1 in
-    let p3 = and_parts (leb q.nominal 255) _ p2.1 in
-    let p4 = and_parts (leb q.first.kind 15) _ p3.1 in
-    let p5 = and_parts (leb q.first.target 256) _ p4.1 in
-    let p6 = and_parts (leb q.second.kind 15) _ p5.1 in
+range_true : (count : ℕ) (v : Numbers) → in_range count v ≡ true → Ranged count v
+unfolding in_range
+range_true count v e =
+    let p0 = and_parts (eqb v.state (count + 1)) _ e in
+    let p1 = and_parts (leb v.state 256) _ p0.1 in
+    let p2 = and_parts (leb v.signals number_limit) _ p1.1 in
+    let p3 = and_parts (leb v.nominal 255) _ p2.1 in
+    let p4 = and_parts (leb v.first_kind 15) _ p3.1 in
+    let p5 = and_parts (leb v.first_target 256) _ p4.1 in
+    let p6 = and_parts (leb v.second_kind 15) _ p5.1 in
     record {
-      number = leb-true _ _ p1.0;
+      next = eqb-true _ _ p0.0;
+      state = leb-true _ _ p1.0;
       signals = leb-true _ _ p2.0;
       nominal = leb-true _ _ p3.0;
       first_kind = leb-true _ _ p4.0;
@@ -77,21 +81,21 @@ allowed_true i q e =
       second_target = leb-true _ _ p6.1;
     }
 
-true_allowed : (i : ℕ) (q : State) → Allowed i q → allowed i q ≡ true
-unfolding allowed
-true_allowed i q a =
-    and_from _ _ (le-leb _ _ a.number) (and_from _ _ (le-leb _ _ a.signals) (and_from _ _ (le-leb _ _ a.nominal)
-    (and_from _ _ (le-leb _ _ a.first_kind) (and_from _ _ (le-leb _ _ a.first_target) (and_from _ _ (le-leb _ _ a.second_kind) (le-leb _ _ a.second_target))))))
+true_range : (count : ℕ) (v : Numbers) → Ranged count v → in_range count v ≡ true
+unfolding in_range
+true_range count v r =
+    and_from _ _ (eq-eqb _ _ r.next) (and_from _ _ (le-leb _ _ r.state) (and_from _ _ (le-leb _ _ r.signals) (and_from _ _ (le-leb _ _ r.nominal)
+    (and_from _ _ (le-leb _ _ r.first_kind) (and_from _ _ (le-leb _ _ r.first_target) (and_from _ _ (le-leb _ _ r.second_kind) (le-leb _ _ r.second_target)))))))
 
-allowed_formed : (i : ℕ) (q : State) → Allowed i q → Formed i q
-allowed_formed i q a = record {
-  number = omega (arith, a.number);
-  signals = omega (arith, a.signals);
-  nominal = omega (arith, a.nominal);
-  first_kind = omega (arith, a.first_kind);
-  first_target = omega (arith, a.first_target);
-  second_kind = omega (arith, a.second_kind);
-  second_target = omega (arith, a.second_target);
+range_formed : (count : ℕ) (v : Numbers) → Ranged count v → Formed v
+range_formed count v r = record {
+  state = omega (arith, r.state);
+  signals = omega (arith, r.signals);
+  nominal = omega (arith, r.nominal);
+  first_kind = omega (arith, r.first_kind);
+  first_target = omega (arith, r.first_target);
+  second_kind = omega (arith, r.second_kind);
+  second_target = omega (arith, r.second_target);
 }
 
 -- ── a line that passes, as a test and in words ──
@@ -100,14 +104,18 @@ unfolding passes
 tested count text e =
     let p1 = and_parts (leb (length (before 10 text)) line_limit) _ e in
     let p2 = and_parts (ltb (length (before 10 text)) (length text)) _ p1.1 in
-    let p3 = and_parts (same_bytes (before 10 text) (trace_line (count + 1) (state_in (before 10 text)))) _ p2.1 in
-    let w : before 10 text ≡ trace_line (count + 1) (state_in (before 10 text)) = same_true _ _ p3.0 in
-    let a : Allowed (count + 1) (state_in (before 10 text)) = allowed_true _ _ p3.1 in
+    let p3 = and_parts (same_bytes (before 10 text) (trace_line (numbers_in (before 10 text)))) _ p2.1 in
+    let w : before 10 text ≡ trace_line (numbers_in (before 10 text)) = same_true _ _ p3.0 in
+    let r : Ranged count (numbers_in (before 10 text)) = range_true _ _ p3.1 in
     let f : FirstLine text (before 10 text) (drop (length (before 10 text) + 1) text) =
     record { shows = before_shows text (ltb-true _ _ p2.0); plain = before_free text; short = leb-true _ _ p1.0 } in
     record {
-      shows = record { line = subst (λ z. FirstLine text z (drop (length (before 10 text) + 1) text)) w f; formed = allowed_formed _ _ a };
-      ranged = (refl, a);
+      numbers = numbers_in (before 10 text);
+      fits = record {
+        shows = record { line = subst (λ z. FirstLine text z (drop (length (before 10 text) + 1) text)) w f; formed = range_formed _ _ r };
+        ranged = r;
+      };
+      means = refl;
     }
 
 -- what a line that passes shows
@@ -118,10 +126,12 @@ pub record Seen (count : ℕ) (q : State) (text rest : List ℕ) : Type 0 where
 
 pub seen : (count : ℕ) (q : State) (text rest : List ℕ) → Passes count q text rest → Seen count q text rest
 unfolding passes
-seen count q text rest p =
-    let line : List ℕ = trace_line (count + 1) q in
+seen count q text rest a =
+    let v = a.numbers in
+    let p = a.fits in
+    let line : List ℕ = trace_line v in
     let b : before 10 text ≡ line = ap (before 10) p.shows.line.shows ∙ before_line line rest p.shows.line.plain in
-    let s : state_in (before 10 text) ≡ q = ap state_in b ∙ extracted (count + 1) q p.shows.formed in
+    let s : numbers_in (before 10 text) ≡ v = ap numbers_in b ∙ extracted v p.shows.formed in
     let n : length text ≡ length line + length (10 ∷ rest) = ap length p.shows.line.shows ∙ length-append line (10 ∷ rest) in
     let d : drop (length (before 10 text) + 1) text ≡ rest =
     ap (λ z. drop (length z + 1) text) b ∙ ap (drop (length line + 1)) p.shows.line.shows ∙ drop_line line rest in
@@ -130,9 +140,9 @@ seen count q text rest p =
     record {
       test = and_from _ _ (le-leb _ _ short)
           (and_from _ _ (lt-ltb _ _ within)
-          (and_from _ _ (subst (λ z. same_bytes (before 10 text) (trace_line (count + 1) z) ≡ true) (sym s) (subst (λ z. same_bytes z line ≡ true) (sym b) (same_refl line)))
-          (subst (λ z. allowed (count + 1) z ≡ true) (sym s) (true_allowed (count + 1) q p.ranged.1))));
-      state = s;
+          (and_from _ _ (subst (λ z. same_bytes (before 10 text) (trace_line z) ≡ true) (sym s) (subst (λ z. same_bytes z line ≡ true) (sym b) (same_refl line)))
+          (subst (λ z. in_range count z ≡ true) (sym s) (true_range count v p.ranged))));
+      state = ap meaning s ∙ sym a.means;
       after = d;
     }
 
@@ -141,7 +151,7 @@ pub run_from : (room count : ℕ) (text : List ℕ) → count + room ≡ 256
     → (rest : List ℕ) × Run Passes count (states_from room count text) text rest
     × ((q : State) (u : List ℕ) → Passes (count + length (states_from room count text)) q rest u → ⊥)
 unfolding states_from
-run_from zero count text h = (text, refl, λ q u p. omega (arith, p.ranged.1.number))
+run_from zero count text h = (text, refl, λ q u p. omega (arith, p.fits.ranged.next, p.fits.ranged.state))
 run_from (suc room) count text h =
     ⊎_elim
     (λ (e : passes count text ≡ true).

@@ -2,7 +2,8 @@ use Rattle.std.proofs.Common.{◌≡◌, ℕ, ◌+◌, ◌⊎◌, List, length, 
 use Rattle.logic.specs.declared.types.State.{State}
 use Rattle.fields.proofs.Follow.{Shorter, compared}
 use Rattle.traces.proofs.Unique.{one_state}
-use Rattle.textrecord.specs.Listed.{Passes, Listed, states_of, ListsLines, OneList}
+use Rattle.traces.specs.Meanings.{Passes}
+use Rattle.textrecord.specs.Listed.{Listed, states_of, ListsLines, OneList}
 use Rattle.textrecord.proofs.Passing.{run_from}
 
 pub lists_lines_lem : ListsLines

@@ -3,15 +3,12 @@ use Rattle.std.specs.Prelude.{◌≡◌, ℕ, zero, suc, ◌+◌, Bool, true, fa
 use Rattle.std.specs.Str.Parse.{digits_value}
 use Rattle.logic.specs.declared.types.State.{State}
 use Rattle.fields.specs.Lines.{line_limit, number_limit}
-use Rattle.fields.specs.Kinds.{Fits}
 use Rattle.fields.specs.Runs.{Run}
-use Rattle.traces.specs.Traces.{trace_line, trace_kind}
+use Rattle.traces.specs.declared.numbers.Numbers.{Numbers}
+use Rattle.traces.specs.Traces.{trace_line}
+use Rattle.traces.specs.Meanings.{meaning, Passes}
 
 -- ── what the list is ──
-
--- the text begins with a line that passes after a count of states, and `rest` follows
-abbrev pub Passes : (count : ℕ) → State → (text rest : List ℕ) → Type 0
-Passes count q text rest = Fits (trace_kind count) text (count + 1, q) rest
 
 -- The list is that of the leading lines that pass: the line after them does not.
 pub record Listed (text : List ℕ) (states : List State) : Type 0 where
@@ -37,20 +34,21 @@ number_in line = digits_value 10 (before 32 (past 61 line))
 abbrev pub next_in : List ℕ → List ℕ
 next_in line = past 32 line
 
--- the state that a line shows, if it is a trace line
-unfoldable pub state_in : List ℕ → State
-state_in line = record {
+-- the numbers that a line shows, if it is a trace line
+unfoldable pub numbers_in : List ℕ → Numbers
+numbers_in line = record {
+  state = number_in line;
   signals = number_in (next_in line);
   nominal = number_in (next_in (next_in line));
-  first = record {
-    kind = number_in (next_in (next_in (next_in line)));
-    target = number_in (next_in (next_in (next_in (next_in line))));
-  };
-  second = record {
-    kind = number_in (next_in (next_in (next_in (next_in (next_in line)))));
-    target = number_in (next_in (next_in (next_in (next_in (next_in (next_in line))))));
-  };
+  first_kind = number_in (next_in (next_in (next_in line)));
+  first_target = number_in (next_in (next_in (next_in (next_in line))));
+  second_kind = number_in (next_in (next_in (next_in (next_in (next_in line)))));
+  second_target = number_in (next_in (next_in (next_in (next_in (next_in (next_in line))))));
 }
+
+-- the state that they mean
+abbrev pub state_in : List ℕ → State
+state_in line = meaning (numbers_in line)
 
 unfoldable pub same_bytes : List ℕ → List ℕ → Bool
 same_bytes [] [] = true
@@ -58,17 +56,16 @@ same_bytes [] (y ∷ ys) = false
 same_bytes (x ∷ xs) [] = false
 same_bytes (x ∷ xs) (y ∷ ys) = x == y && same_bytes xs ys
 
-unfoldable pub allowed : (i : ℕ) → State → Bool
-allowed i q =
-    nat_le i 256 && (nat_le q.signals number_limit && (nat_le q.nominal 255 && (nat_le q.first.kind 15 &&
-    (nat_le q.first.target 256 && (nat_le q.second.kind 15 && nat_le q.second.target 256)))))
+unfoldable pub in_range : (count : ℕ) → Numbers → Bool
+in_range count v =
+    v.state == count + 1 && (nat_le v.state 256 && (nat_le v.signals number_limit && (nat_le v.nominal 255 &&
+    (nat_le v.first_kind 15 && (nat_le v.first_target 256 && (nat_le v.second_kind 15 && nat_le v.second_target 256))))))
 
--- the first line is that of the state that it shows, under the next number
+-- the first line is that of the numbers that it shows, and these are in range after a count of states
 unfoldable pub passes : (count : ℕ) → List ℕ → Bool
 passes count text =
     nat_le (length (before 10 text)) line_limit && (nat_lt (length (before 10 text)) (length text) &&
-    (same_bytes (before 10 text) (trace_line (count + 1) (state_in (before 10 text))) &&
-    allowed (count + 1) (state_in (before 10 text))))
+    (same_bytes (before 10 text) (trace_line (numbers_in (before 10 text))) && in_range count (numbers_in (before 10 text))))
 
 -- the states of up to `room` leading lines, after a count of states
 unfoldable pub states_from : (room count : ℕ) → List ℕ → List State

@@ -4,6 +4,8 @@
 #[cfg(test)]
 mod asks;
 #[cfg(test)]
+mod limits;
+#[cfg(test)]
 mod records_read;
 #[cfg(test)]
 mod rules_read;
@@ -11,3 +13,5 @@ mod rules_read;
 mod rules_refused;
 #[cfg(test)]
 mod traces_read;
+#[cfg(test)]
+mod words_told;

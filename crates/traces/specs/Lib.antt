@@ -1,2 +1,2 @@
 pub mod Traces
-pub mod Shown
+pub mod Meanings

@@ -1,56 +1,41 @@
--- Trace lines, as they are written, and what a text that should begin with one is read as.
-use Rattle.std.specs.Prelude.{◌≡◌, ℕ, ◌+◌, ◌≤◌, List, [], codes, Result, MatchResult}
-use Rattle.logic.specs.declared.types.State.{State}
-use Rattle.faults.specs.declared.line.LineFault.{LineFault}
+-- Trace lines, as they are written.
+use Rattle.std.specs.Prelude.{◌≡◌, ℕ, ◌+◌, ◌≤◌, List, [], codes}
 use Rattle.fields.specs.Lines.{Small, field, number_limit}
-use Rattle.fields.specs.Kinds.{Kind, Takes, Refuses}
-use Rattle.fields.specs.declared.lines.Taken.{Taken}
+use Rattle.fields.specs.Kinds.{Kind}
+use Rattle.traces.specs.declared.numbers.Numbers.{Numbers}
 
--- the line of state number i
-abbrev pub trace_line : (i : ℕ) → State → List ℕ
-trace_line i q =
-    field (codes "s=") i
-    (field (codes " signals=") q.signals
-    (field (codes " mark=") q.nominal
-    (field (codes " ka=") q.first.kind
-    (field (codes " ta=") q.first.target
-    (field (codes " kb=") q.second.kind
-    (field (codes " tb=") q.second.target []))))))
+-- the line that shows these numbers
+abbrev pub trace_line : Numbers → List ℕ
+trace_line v =
+    field (codes "s=") v.state
+    (field (codes " signals=") v.signals
+    (field (codes " mark=") v.nominal
+    (field (codes " ka=") v.first_kind
+    (field (codes " ta=") v.first_target
+    (field (codes " kb=") v.second_kind
+    (field (codes " tb=") v.second_target []))))))
 
 -- each number has at most ten digits
-pub record Formed (i : ℕ) (q : State) : Type 0 where
-  pub number : Small i
-  pub signals : Small q.signals
-  pub nominal : Small q.nominal
-  pub first_kind : Small q.first.kind
-  pub first_target : Small q.first.target
-  pub second_kind : Small q.second.kind
-  pub second_target : Small q.second.target
+pub record Formed (v : Numbers) : Type 0 where
+  pub state : Small v.state
+  pub signals : Small v.signals
+  pub nominal : Small v.nominal
+  pub first_kind : Small v.first_kind
+  pub first_target : Small v.first_target
+  pub second_kind : Small v.second_kind
+  pub second_target : Small v.second_target
 
--- each number is in its range
-pub record Allowed (i : ℕ) (q : State) : Type 0 where
-  pub number : i ≤ 256
-  pub signals : q.signals ≤ number_limit
-  pub nominal : q.nominal ≤ 255
-  pub first_kind : q.first.kind ≤ 15
-  pub first_target : q.first.target ≤ 256
-  pub second_kind : q.second.kind ≤ 15
-  pub second_target : q.second.target ≤ 256
+-- after a count of states: the number of the state is the next one, and each number is in its range
+pub record Ranged (count : ℕ) (v : Numbers) : Type 0 where
+  pub next : v.state ≡ count + 1
+  pub state : v.state ≤ 256
+  pub signals : v.signals ≤ number_limit
+  pub nominal : v.nominal ≤ 255
+  pub first_kind : v.first_kind ≤ 15
+  pub first_target : v.first_target ≤ 256
+  pub second_kind : v.second_kind ≤ 15
+  pub second_target : v.second_target ≤ 256
 
--- the line of a state after a count of states: a number and a state
+-- the line of the next state after a count of states
 abbrev pub trace_kind : (count : ℕ) → Kind
-trace_kind count = record {
-  Value = ℕ × State;
-  written = λ v. trace_line v.0 v.1;
-  Formed = λ v. Formed v.0 v.1;
-  Ranged = λ v. (v.0 ≡ count + 1) × Allowed v.0 v.1;
-}
-
--- What a text is read as after a count of states. The place of a refusal is line 1.
-abbrev pub Reads : List ℕ → (count : ℕ) → Result (Taken State) LineFault → Type 0
-Reads text count r =
-    MatchResult r (λ a. Takes (trace_kind count) text (count + 1, a.value) a.used) (λ e. Refuses (trace_kind count) text 1 e)
-
--- A text is read in one way only.
-abbrev pub OneReading : Type 0
-OneReading = (text : List ℕ) (count : ℕ) (r s : Result (Taken State) LineFault) → Reads text count r → Reads text count s → r ≡ s
+trace_kind count = record { Value = Numbers; written = trace_line; Formed = Formed; Ranged = Ranged count }

@@ -1,27 +1,26 @@
 ghost use Rattle.std.specs.Prelude.{◌≡◌, MatchOption};
 ghost use Rattle.fields.specs.Kinds.{ShowsNone};
 ghost use Rattle.traces.specs.Traces.{Formed, trace_kind, trace_line};
-ghost use Rattle.traces.specs.Shown.{state_of};
 
 use fields::values::Fields;
 use keys::TraceKey;
 
 // The numbers of a trace line, as they stand.
-#[derive(Drop, Clone, Copy)]
-pub(crate) struct Numbers {
-    pub(crate) state: u64,
-    pub(crate) signals: u64,
-    pub(crate) nominal: u64,
-    pub(crate) first_kind: u64,
-    pub(crate) first_target: u64,
-    pub(crate) second_kind: u64,
-    pub(crate) second_target: u64,
+#[derive(Drop, Clone, Copy, PartialEq, Eq, Debug)]
+pub struct Numbers {
+    pub state: u64,
+    pub signals: u64,
+    pub nominal: u64,
+    pub first_kind: u64,
+    pub first_target: u64,
+    pub second_kind: u64,
+    pub second_target: u64,
 }
 
 // The numbers that a trace line shows. `trace_kind 0` stands for the kind after any count of states: the form of a line does
 // not depend on the count.
 pub(crate) fn numbers_of(line: &[u8]) -> Option<Numbers>
-    ensures { MatchOption result (ShowsNone (trace_kind 0) line.now) (λ v. Formed v.state (state_of v) × (line.now ≡ trace_line v.state (state_of v))) }
+    ensures { MatchOption result (ShowsNone (trace_kind 0) line.now) (λ v. Formed v × (line.now ≡ trace_line v)) }
 {
     let mut fields = Fields::of(line);
     let state = fields.number(TraceKey::State)?;

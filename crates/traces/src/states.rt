@@ -1,6 +1,6 @@
-ghost use Rattle.std.specs.Prelude.{◌≡◌, ◌+◌, ◌≤◌, MatchOption};
-ghost use Rattle.traces.specs.Traces.{Allowed, Reads};
-ghost use Rattle.traces.specs.Shown.{state_of};
+ghost use Rattle.std.specs.Prelude.{◌≡◌, ◌≤◌, MatchOption};
+ghost use Rattle.traces.specs.Traces.{Ranged};
+ghost use Rattle.traces.specs.Meanings.{meaning, Reads};
 
 use crate::numbers::{Numbers, numbers_of};
 use faults::line::LineFault;
@@ -23,7 +23,7 @@ fn reference_of(kind: u64, target: u64) -> Option<Reference>
 
 // The state that the numbers of a line give after a count of states, if they are in their ranges.
 fn state_of(v: Numbers, count: usize) -> Option<State>
-    ensures { MatchOption result ((v.state ≡ count + 1) × Allowed v.state (state_of v) → ⊥) (λ q. (v.state ≡ count + 1) × Allowed v.state (state_of v) × (q ≡ state_of v)) }
+    ensures { MatchOption result (Ranged count v → ⊥) (λ x. Ranged count v × (x ≡ meaning v)) }
 {
     // A cast, since no `From` leads from `usize` to `u64`.
     if count >= MOST_STATES || v.state != count as u64 + 1 {

@@ -4,3 +4,5 @@ pub mod Taking
 pub mod Walks
 pub mod Unique
 pub mod Joining
+pub mod Longer
+pub mod GoingOn

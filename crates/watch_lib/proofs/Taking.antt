@@ -6,8 +6,9 @@ use Rattle.logic.specs.declared.types.State.{State}
 use Rattle.refusals.specs.declared.Refusal.{Refusal}
 use Rattle.refusals.specs.declared.Refusal.TheVariants as refusal
 use Rattle.refusals.specs.Numbers.{told}
-use Rattle.fields.specs.Kinds.{Kind, Fits, Takes}
-use Rattle.traces.specs.Traces.{trace_kind}
+use Rattle.fields.specs.Kinds.{Kind, Takes}
+use Rattle.traces.specs.Meanings.{Passes, StateTaken}
+use Rattle.traces.proofs.Unique.{passing}
 use Rattle.expectations.specs.Expectations.{notices}
 use Rattle.answers.specs.declared.types.Call.{Call}
 use Rattle.answers.specs.declared.types.Call.TheVariants.{Append}
@@ -31,10 +32,10 @@ pub own_refusal : (own : ℕ) (G : Ground) (xs : List State) (call : Call) → o
 own_refusal own G xs call e = ap (λ b. cond b (refusal_of G xs call) (Some refusal.ForeignRecord)) (eq-eqb own (length xs) e)
 
 pub not_taken : {A : Type 0} (own count : ℕ) (G : Ground) (xs : List State) (text : List ℕ) (x : State) (used : ℕ) (v : A) (why : Refusal) (n : ℕ)
-    → own ≡ length xs → count ≡ length xs → Takes (trace_kind count) text (count + 1, x) used → Err why ≡ outcome (refused_by own G xs (Append x)) v → n ≡ (told why).number
+    → own ≡ length xs → count ≡ length xs → StateTaken text count x used → Err why ≡ outcome (refused_by own G xs (Append x)) v → n ≡ (told why).number
     → NotTaken G xs text n
 not_taken own count G xs text x used v why n o e takes r number =
-    inr (x, drop used text, why, (subst (λ c. Takes (trace_kind c) text (c + 1, x) used) e takes).fits, sym (own_refusal own G xs (Append x) o) ∙ outcome_err (refused_by own G xs (Append x)) v why r, number)
+    inr (x, drop used text, why, passing text (length xs) x used (subst (λ c. StateTaken text c x used) e takes), sym (own_refusal own G xs (Append x) o) ∙ outcome_err (refused_by own G xs (Append x)) v why r, number)
 
 -- a refusal that was made a line of output
 pub refused_line : {A : Type 0} (r : Result A Refusal) (m : Result A Line) (line : Line) (place : ℕ) {Kept : A → Type 0} {Made : Refusal → Type 0}
@@ -44,10 +45,10 @@ refused_line (Ok x) m line place made is keeps reads = let e : m ≡ Ok x = keep
 refused_line (Err why) m line place made is keeps reads = (why, refl, reads why made)
 
 pub is_taken : {A : Type 0} (own count : ℕ) (G : Ground) (xs ys : List State) (text : List ℕ) (x : State) (used place : ℕ) (v w : A)
-    → own ≡ length xs → count ≡ length xs → Takes (trace_kind count) text (count + 1, x) used → Ok w ≡ outcome (refused_by own G xs (Append x)) v → ys ≡ xs ++ x ∷ []
+    → own ≡ length xs → count ≡ length xs → StateTaken text count x used → Ok w ≡ outcome (refused_by own G xs (Append x)) v → ys ≡ xs ++ x ∷ []
     → Steps G xs text place (Ok used) ys
 is_taken own count G xs ys text x used place v w o e takes r grown =
-    (x, subst (λ c. Takes (trace_kind c) text (c + 1, x) used) e takes, sym (own_refusal own G xs (Append x) o) ∙ (outcome_ok (refused_by own G xs (Append x)) v w r).0, grown)
+    (x, subst (λ c. StateTaken text c x used) e takes, sym (own_refusal own G xs (Append x) o) ∙ (outcome_ok (refused_by own G xs (Append x)) v w r).0, grown)
 
 pub longer : (xs ys : List State) (x : State) (n : ℕ) → n ≡ length xs → ys ≡ xs ++ x ∷ [] → length ys ≡ n + 1
 longer xs ys x n e grown = ap length grown ∙ length-append xs (x ∷ []) ∙ ap (λ m. m + 1) (sym e)
@@ -71,7 +72,7 @@ pub stepped : (G H J : Ground) (start text rest : List ℕ) (xs ys : List State)
     → new ≡ lines ++ map (Told point) (notices (J.labelled ys) J.rules point) → rest ≡ drop used text → Reaches G start ys rest new
 stepped G H J start text rest xs ys lines new used place point h j reaches (x, takes, fit, grown) p told left =
     let next : Reaches G start (xs ++ x ∷ []) rest (lines ++ point_lines G (xs ++ x ∷ [])) =
-    more reaches (subst (λ r. Fits (trace_kind (length xs)) text (length xs + 1, x) r) (sym left) takes.fits) (subst (λ (g : Ground). refusal_of g xs (Append x) ≡ None) h fit) in
+    more reaches (subst (Passes (length xs) x text) (sym left) (passing text (length xs) x used takes)) (subst (λ (g : Ground). refusal_of g xs (Append x) ≡ None) h fit) in
     let same : new ≡ lines ++ point_lines G ys =
     told ∙ ap (λ (g : Ground). lines ++ map (Told point) (notices (g.labelled ys) g.rules point)) j
     ∙ ap (λ c. lines ++ map (Told c) (notices (G.labelled ys) G.rules c)) p in

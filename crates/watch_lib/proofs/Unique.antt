@@ -8,8 +8,8 @@ use Rattle.faults.specs.declared.read.ReadFault.{ReadFault}
 use Rattle.faults.specs.Refusals.{of_line, refusal}
 use Rattle.refusals.specs.declared.Refusal.{Refusal}
 use Rattle.refusals.specs.Numbers.{told}
-use Rattle.fields.specs.Kinds.{Fits}
-use Rattle.traces.specs.Traces.{trace_line, trace_kind}
+use Rattle.traces.specs.Traces.{trace_line}
+use Rattle.traces.specs.Meanings.{Passes}
 use Rattle.traces.proofs.Unique.{one_state, fit_or_refused, one_refusal}
 use Rattle.rulestexts.proofs.Unique as rulesText
 use Rattle.answers.specs.declared.types.Call.TheVariants.{Append}
@@ -22,30 +22,30 @@ use Rattle.watch_lib.specs.Watched.{point_lines, Reaches, none, more, NotTaken, 
 use Rattle.watch_lib.proofs.Walks.{Walk, here, walk_more, Stuck, one_end}
 
 -- where a reading of trace lines stands: the accepted states, the text that is left, and the lines so far
-record Place : Type 0 where
-  states : List State
-  rest : List ℕ
-  lines : List Line
+pub record Place : Type 0 where
+  pub states : List State
+  pub rest : List ℕ
+  pub lines : List Line
 
-abbrev place : List State → List ℕ → List Line → Place
+abbrev pub place : List State → List ℕ → List Line → Place
 place xs rest lines = record { states = xs; rest = rest; lines = lines }
 
 module _ (G : Ground) where
-  abbrev stepped : Place → State → List ℕ → Place
+  abbrev pub stepped : Place → State → List ℕ → Place
   stepped p x rest = place (p.states ++ x ∷ []) rest (p.lines ++ point_lines G (p.states ++ x ∷ []))
 
   -- the next state is accepted
-  abbrev Step : Place → Place → Type 0
+  abbrev pub Step : Place → Place → Type 0
   Step p q =
-      (x : State) × (rest : List ℕ) × Fits (trace_kind (length p.states)) p.rest (length p.states + 1, x) rest
+      (x : State) × (rest : List ℕ) × Passes (length p.states) x p.rest rest
       × (refusal_of G p.states (Append x) ≡ None) × (q ≡ stepped p x rest)
 
-  one_step : (p q r : Place) → Step p q → Step p r → q ≡ r
+  pub one_step : (p q r : Place) → Step p q → Step p r → q ≡ r
   one_step p q r (x, s, fit, ok, e) (y, t, fit', ok', f) =
       let d = one_state (length p.states) x y p.rest s t fit fit' in
       e ∙ ap₂ (stepped p) d.0 d.1 ∙ sym f
 
-  walk : {start : List ℕ} {xs : List State} {rest : List ℕ} {lines : List Line} → Reaches G start xs rest lines → Walk Step (place [] start []) (place xs rest lines)
+  pub walk : {start : List ℕ} {xs : List State} {rest : List ℕ} {lines : List Line} → Reaches G start xs rest lines → Walk Step (place [] start []) (place xs rest lines)
   walk none = here refl
   walk (more {x = x} {rest = rest} reaches fit ok) = walk_more Step (walk reaches) (x, rest, fit, ok, refl)
 
@@ -54,13 +54,13 @@ module _ (G : Ground) where
   clash xs x y why e ok out = let n : ◌≡◌ {A = ℕ} 0 1 = cc in omega arith
 
   -- after the last line no state is accepted
-  stuck : (xs : List State) (text : List ℕ) (before : List Line) (n : ℕ) (last : Line) → Closes G xs text n last → Stuck Step (place xs text before)
+  pub stuck : (xs : List State) (text : List ℕ) (before : List Line) (n : ℕ) (last : Line) → Closes G xs text n last → Stuck Step (place xs text before)
   stuck xs text before n (Told c t) closes q s = closes
   stuck xs text before n (Refused k l) (some, at, inl (e, out, number)) q (x, rest, fit, ok, _) = fit_or_refused (length xs) x text rest e fit out
   stuck xs text before n (Refused k l) (some, at, inr (y, t, why, fit', out, number)) q (x, rest, fit, ok, _) =
       clash xs x y why (one_state (length xs) x y text rest t fit fit').0 ok out
   stuck xs text before n (End k t) (none_left, e) q (x, rest, fit, ok, _) =
-      omega (arith, none_left, ap length fit.shows.line.shows, length-append (trace_line (length xs + 1) x) (10 ∷ rest))
+      omega (arith, none_left, ap length fit.fits.shows.line.shows, length-append (trace_line fit.numbers) (10 ∷ rest))
 
   one_number : (xs : List State) (text : List ℕ) (m n : ℕ) → NotTaken G xs text m → NotTaken G xs text n → m ≡ n
   one_number xs text m n (inl (e, x, p)) (inl (f, y, q)) = p ∙ ap (λ (z : LineFault). (of_line z).number) (one_refusal (length xs) text e f x y) ∙ sym q
@@ -90,7 +90,7 @@ module _ (G : Ground) where
       p.all ∙ ap₂ (λ (z : Place) m. z.lines ++ m ∷ []) e l ∙ sym q.all
 
 -- two readings of a rules text
-moved : (input : List ℕ) (fs gs : List Formula) (rs qs : List Rule) (m n : ℕ) (lines : List Line) → (fs ≡ gs) × (rs ≡ qs) × (m ≡ n)
+pub moved : (input : List ℕ) (fs gs : List Formula) (rs qs : List Rule) (m n : ℕ) (lines : List Line) → (fs ≡ gs) × (rs ≡ qs) × (m ≡ n)
     → Traced (ground gs qs 256) (drop n input) (length gs + length qs + 3) lines → Traced (ground fs rs 256) (drop m input) (length fs + length rs + 3) lines
 moved input fs gs rs qs m n lines (e, f, u) t =
     subst (λ k. Traced (ground fs rs 256) (drop k input) (length fs + length rs + 3) lines) (sym u)

@@ -1,5 +1,5 @@
 -- Laws of what watch prints.
-use Rattle.std.specs.Prelude.{◌≡◌, ℕ, List}
+use Rattle.std.specs.Prelude.{◌≡◌, ℕ, ◌≤◌, List, [], ◌∷◌, ◌++◌, length}
 use Rattle.watch_lib.specs.declared.lines.Line.{Line}
 use Rattle.watch_lib.specs.Watched.{Watched}
 
@@ -10,3 +10,14 @@ Only input lines = (other : List Line) → Watched input other → other ≡ lin
 -- An input gives one output.
 abbrev pub OneOutput : Type 0
 OneOutput = (input : List ℕ) (lines : List Line) → Watched input lines → Only input lines
+
+-- the lines begin with these
+abbrev pub BeginWith : (lines first : List Line) → Type 0
+BeginWith lines first = (rest : List Line) × (lines ≡ first ++ rest)
+
+-- Nothing printed is taken back but the last line: every input of at most 32768 bytes that goes on from this one prints first
+-- of all the same lines up to the last one, which is the end line of an input that was taken whole.
+abbrev pub GoesOn : (input : List ℕ) → List Line → Type 0
+GoesOn input lines =
+    (before : List Line) (last : Line) → lines ≡ before ++ last ∷ [] → (more : List ℕ) (other : List Line)
+    → length (input ++ more) ≤ 32768 → Watched (input ++ more) other → BeginWith other before

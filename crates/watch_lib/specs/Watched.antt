@@ -8,8 +8,9 @@ use Rattle.faults.specs.declared.read.ReadFault.{ReadFault}
 use Rattle.faults.specs.Refusals.{of_line, refusal}
 use Rattle.refusals.specs.declared.Refusal.{Refusal}
 use Rattle.refusals.specs.Numbers.{told}
-use Rattle.fields.specs.Kinds.{Fits, Takes, Refuses}
+use Rattle.fields.specs.Kinds.{Refuses}
 use Rattle.traces.specs.Traces.{trace_kind}
+use Rattle.traces.specs.Meanings.{Passes, StateTaken}
 use Rattle.rulestexts.specs.Texts.{Whole}
 use Rattle.rulestexts.specs.Texts as rulesText
 use Rattle.expectations.specs.Expectations.{notices}
@@ -33,7 +34,7 @@ closing_line G xs = End (length xs) (summed (G.labelled xs) (length xs) G.rules)
 pub data Reaches (G : Ground) (start : List ℕ) : List State → List ℕ → List Line → Type 0 where
   none : Reaches G start [] start []
   more : {xs : List State} {text : List ℕ} {lines : List Line} {x : State} {rest : List ℕ} → Reaches G start xs text lines
-      → Fits (trace_kind (length xs)) text (length xs + 1, x) rest → refusal_of G xs (Append x) ≡ None
+      → Passes (length xs) x text rest → refusal_of G xs (Append x) ≡ None
       → Reaches G start (xs ++ x ∷ []) rest (lines ++ point_lines G (xs ++ x ∷ []))
 
 -- The first line of the text is refused after the accepted states xs: it is no line of the next state, or the state is not
@@ -41,7 +42,7 @@ pub data Reaches (G : Ground) (start : List ℕ) : List State → List ℕ → L
 abbrev pub NotTaken : Ground → List State → (text : List ℕ) → (number : ℕ) → Type 0
 NotTaken G xs text n =
     ((e : LineFault) × Refuses (trace_kind (length xs)) text 1 e × (n ≡ (of_line e).number)) ⊎
-    ((x : State) × (rest : List ℕ) × (why : Refusal) × Fits (trace_kind (length xs)) text (length xs + 1, x) rest × (refusal_of G xs (Append x) ≡ Some why) × (n ≡ (told why).number))
+    ((x : State) × (rest : List ℕ) × (why : Refusal) × Passes (length xs) x text rest × (refusal_of G xs (Append x) ≡ Some why) × (n ≡ (told why).number))
 
 -- the last line, after the accepted states xs, where a text is left whose first line has the number `place`
 abbrev pub Closes : Ground → List State → (text : List ℕ) → (place : ℕ) → Line → Type 0
@@ -72,5 +73,5 @@ pub data Watched (input : List ℕ) (lines : List Line) : Type 0 where
 -- a line, which has the number `place`, is taken, with the state in it and its count of bytes, or not, with the line of output that tells so
 abbrev pub Steps : Ground → List State → (text : List ℕ) → (place : ℕ) → Result ℕ Line → List State → Type 0
 Steps G xs text place (Ok used) ys =
-    (x : State) × Takes (trace_kind (length xs)) text (length xs + 1, x) used × (refusal_of G xs (Append x) ≡ None) × (ys ≡ xs ++ x ∷ [])
+    (x : State) × StateTaken text (length xs) x used × (refusal_of G xs (Append x) ≡ None) × (ys ≡ xs ++ x ∷ [])
 Steps G xs text place (Err line) ys = (n : ℕ) × NotTaken G xs text n × (line ≡ Refused n place) × (ys ≡ xs)

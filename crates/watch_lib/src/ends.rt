@@ -1,9 +1,6 @@
 // The line at the end of a log.
-ghost use Rattle.std.specs.Prelude.{◌≡◌, ◌<◌, length, slice_index_or};
-ghost use Rattle.logic.specs.Tables.{no_rule};
-ghost use Rattle.expectations.specs.Expectations.{tallied};
-ghost use Rattle.growth.specs.Growth.{labels_of};
-ghost use Rattle.monitor.specs.Book.{ground_of, table_of, rules_in};
+ghost use Rattle.std.specs.Prelude.{◌≡◌, ◌<◌, length};
+ghost use Rattle.monitor.specs.Live.{ground_of, table_rules, states_of, tally_at};
 ghost use Rattle.watch_lib.specs.Sums.{plus as sum_of, Few};
 ghost use Rattle.watch_lib.specs.Watched.{closing_line};
 
@@ -31,8 +28,8 @@ fn plus(a: Tally, b: Tally) -> Tally
 impl<R: Growing> Watcher<R> {
     // The tally of a rule that is there.
     fn tally_of(&self, rule: usize) -> Tally
-        requires { rule < length (rules_in self.now.monitor.book) }
-        ensures counts { result ≡ tallied (labels_of (table_of self.now.monitor.book) (R.Readable.states self.now.monitor.log)) (slice_index_or (rules_in self.now.monitor.book) rule no_rule) (length (R.Readable.states self.now.monitor.log)) (length (R.Readable.states self.now.monitor.log)) }
+        requires { rule < length (table_rules self.now.monitor) }
+        ensures counts { result ≡ tally_at self.now.monitor rule }
         ensures few { Few 256 result }
     {
         // Never refused: the rule is there.
@@ -41,7 +38,7 @@ impl<R: Growing> Watcher<R> {
 
     // The end line after the states that were accepted.
     pub(crate) fn end_line(&self) -> Line
-        ensures { result ≡ closing_line (ground_of self.now.monitor.book (R.Growing.room self.now.monitor.log)) (R.Readable.states self.now.monitor.log) }
+        ensures { result ≡ closing_line (ground_of self.now.monitor) (states_of self.now.monitor) }
     {
         let mut tally = Tally::default();
         // By number: a monitor is asked for the tally of rule k. Not by `fold`: what a sum has to stay below is said in the

@@ -1,11 +1,9 @@
 // The notices of a truncation point.
-ghost use Rattle.std.specs.Prelude.{◌≡◌, ◌<◌, ◌≤◌, ◌++◌, map, length, OnOk, slice_index_or};
+ghost use Rattle.std.specs.Prelude.{◌≡◌, ◌<◌, ◌≤◌, ◌++◌, map, length, OnOk};
 ghost use Rattle.std.specs.List.{flat_map};
 ghost use Rattle.std.specs.Option.{option_to_list};
-ghost use Rattle.logic.specs.Tables.{no_rule};
-ghost use Rattle.expectations.specs.Expectations.{standing, of_state, from_state, notices};
-ghost use Rattle.growth.specs.Growth.{labels_of};
-ghost use Rattle.monitor.specs.Book.{table_of, rules_in};
+ghost use Rattle.expectations.specs.Expectations.{of_state, from_state, notices};
+ghost use Rattle.monitor.specs.Live.{states_of, table_rules, rule_at, record_labels, standing_at};
 ghost use Rattle.watch_lib.specs.declared.lines.Line.TheVariants.{Told};
 
 use crate::lines::Line;
@@ -18,11 +16,11 @@ use std::alloc::AllocError;
 impl<R: Growing> Watcher<R> {
     // What has become of the expectation that a rule has of a state, as a point that was accepted reads it.
     fn standing_of(&self, rule: usize, state: usize, point: usize) -> Standing
-        requires rule { rule < length (rules_in self.now.monitor.book) }
+        requires rule { rule < length (table_rules self.now.monitor) }
         requires from { 1 ≤ state }
         requires by { state ≤ point }
-        requires to { point ≤ length (R.Readable.states self.now.monitor.log) }
-        ensures { result ≡ standing (labels_of (table_of self.now.monitor.book) (R.Readable.states self.now.monitor.log)) (slice_index_or (rules_in self.now.monitor.book) rule no_rule) state point }
+        requires to { point ≤ length (states_of self.now.monitor) }
+        ensures { result ≡ standing_at self.now.monitor rule state point }
     {
         // Never refused: the rule is there, and the point was accepted.
         self.monitor
@@ -32,11 +30,11 @@ impl<R: Growing> Watcher<R> {
 
     // The notices that a point has on this expectation: its raising, then its decision.
     fn notices_of(&self, rule: usize, state: usize, point: usize) -> [Option<Notice>; 2]
-        requires rule { rule < length (rules_in self.now.monitor.book) }
+        requires rule { rule < length (table_rules self.now.monitor) }
         requires from { 1 ≤ state }
         requires by { state ≤ point }
-        requires to { point ≤ length (R.Readable.states self.now.monitor.log) }
-        ensures { flat_map option_to_list result ≡ of_state (labels_of (table_of self.now.monitor.book) (R.Readable.states self.now.monitor.log)) point rule (slice_index_or (rules_in self.now.monitor.book) rule no_rule) state }
+        requires to { point ≤ length (states_of self.now.monitor) }
+        ensures { flat_map option_to_list result ≡ of_state (record_labels self.now.monitor) point rule (rule_at self.now.monitor rule) state }
     {
         let told = |is_so: bool, event: Event| {
             is_so.then_some(Notice {
@@ -62,11 +60,11 @@ impl<R: Growing> Watcher<R> {
         point: usize,
         lines: &mut Vec<Line>,
     ) -> Result<(), AllocError>
-        requires rule { rule < length (rules_in self.now.monitor.book) }
+        requires rule { rule < length (table_rules self.now.monitor) }
         requires from { 1 ≤ state }
         requires by { state ≤ point }
-        requires to { point ≤ length (R.Readable.states self.now.monitor.log) }
-        ensures { OnOk result (lines.new.items ≡ lines.old.items ++ map (Told point) (of_state (labels_of (table_of self.now.monitor.book) (R.Readable.states self.now.monitor.log)) point rule (slice_index_or (rules_in self.now.monitor.book) rule no_rule) state)) }
+        requires to { point ≤ length (states_of self.now.monitor) }
+        ensures { OnOk result (lines.new.items ≡ lines.old.items ++ map (Told point) (of_state (record_labels self.now.monitor) point rule (rule_at self.now.monitor rule) state)) }
     {
         // Not by `flatten`: an invariant would have to say what its source and its inner iterators have left.
         for told in self.notices_of(rule, state, point) {
@@ -80,10 +78,10 @@ impl<R: Growing> Watcher<R> {
     // Adds a line for each notice that a point has on a rule's expectations, in the order of their states.
     #[tactic(auto, using(crate::proofs::Telling::state_more, std::proofs::lemmas::Grind::common_steps))]
     fn tell_rule(&self, rule: usize, point: usize, lines: &mut Vec<Line>) -> Result<(), AllocError>
-        requires rule { rule < length (rules_in self.now.monitor.book) }
+        requires rule { rule < length (table_rules self.now.monitor) }
         requires from { 1 ≤ point }
-        requires to { point ≤ length (R.Readable.states self.now.monitor.log) }
-        ensures { OnOk result (lines.new.items ≡ lines.old.items ++ map (Told point) (from_state (labels_of (table_of self.now.monitor.book) (R.Readable.states self.now.monitor.log)) point rule (slice_index_or (rules_in self.now.monitor.book) rule no_rule) point 1)) }
+        requires to { point ≤ length (states_of self.now.monitor) }
+        ensures { OnOk result (lines.new.items ≡ lines.old.items ++ map (Told point) (from_state (record_labels self.now.monitor) point rule (rule_at self.now.monitor rule) point 1)) }
     {
         // Not `1..=`, after which it is not known where an empty loop ends.
         for state in 1..point + 1 {
@@ -96,8 +94,8 @@ impl<R: Growing> Watcher<R> {
     #[tactic(auto, using(crate::proofs::Telling::rule_more, std::proofs::lemmas::Grind::common_steps))]
     pub(crate) fn tell_point(&self, point: usize, lines: &mut Vec<Line>) -> Result<(), AllocError>
         requires from { 1 ≤ point }
-        requires to { point ≤ length (R.Readable.states self.now.monitor.log) }
-        ensures { OnOk result (lines.new.items ≡ lines.old.items ++ map (Told point) (notices (labels_of (table_of self.now.monitor.book) (R.Readable.states self.now.monitor.log)) (rules_in self.now.monitor.book) point)) }
+        requires to { point ≤ length (states_of self.now.monitor) }
+        ensures { OnOk result (lines.new.items ≡ lines.old.items ++ map (Told point) (notices (record_labels self.now.monitor) (table_rules self.now.monitor) point)) }
     {
         // By number: a monitor is asked for the standings of rule k.
         for rule in 0..self.rules {

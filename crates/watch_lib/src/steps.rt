@@ -1,6 +1,6 @@
 // One trace line after another.
 ghost use Rattle.std.specs.Prelude.{◌≡◌, ◌+◌, ◌≤◌, [], length, IfOk};
-ghost use Rattle.monitor.specs.Book.{ground_of};
+ghost use Rattle.monitor.specs.Live.{table_of, states_of, room_of, ground_of};
 ghost use Rattle.watch_lib.specs.Watched.{Steps, Traced};
 
 use crate::lines::Line;
@@ -14,10 +14,10 @@ impl<R: Growing> Watcher<R> {
     // Appends the state of the text's first line, and answers the bytes of the line, or the line of output that tells why it
     // is not taken; `place` is the line's, for a refusal.
     fn take_line(&mut self, text: &[u8], place: usize) -> Result<usize, Line>
-        ensures steps { Steps (ground_of self.old.monitor.book (R.Growing.room self.old.monitor.log)) (R.Readable.states self.old.monitor.log) text.now place result (R.Readable.states self.new.monitor.log) }
-        ensures bytes { IfOk result (λ used. (1 ≤ used) × (used ≤ length text.now) × (length (R.Readable.states self.new.monitor.log) ≡ length (R.Readable.states self.old.monitor.log) + 1)) }
-        ensures table { self.new.monitor.book.table ≡ self.old.monitor.book.table }
-        ensures room { R.Growing.room self.new.monitor.log ≡ R.Growing.room self.old.monitor.log }
+        ensures steps { Steps (ground_of self.old.monitor) (states_of self.old.monitor) text.now place result (states_of self.new.monitor) }
+        ensures bytes { IfOk result (λ used. (1 ≤ used) × (used ≤ length text.now) × (length (states_of self.new.monitor) ≡ length (states_of self.old.monitor) + 1)) }
+        ensures table { table_of self.new.monitor ≡ table_of self.old.monitor }
+        ensures room { room_of self.new.monitor ≡ room_of self.old.monitor }
     {
         let count = self.monitor.count();
         let line = read_state(text, count).map_err(|fault| Line::refused(fault, place))?;
@@ -36,10 +36,10 @@ impl<R: Growing> Watcher<R> {
         text: &[u8],
         place: usize,
     ) -> Result<Vec<Line>, AllocError>
-        requires fresh { R.Readable.states self.old.monitor.log ≡ [] }
+        requires fresh { states_of self.old.monitor ≡ [] }
         requires small { length text.now ≤ 32768 }
         requires place { place ≤ 100 }
-        ensures { IfOk result (λ v. Traced (ground_of self.old.monitor.book (R.Growing.room self.old.monitor.log)) text.now place v.items) }
+        ensures { IfOk result (λ v. Traced (ground_of self.old.monitor) text.now place v.items) }
     {
         let mut lines = Vec::new(heap);
         let mut rest = text;

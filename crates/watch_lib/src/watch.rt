@@ -1,8 +1,8 @@
 // From an input to the lines of output.
 ghost use Rattle.std.specs.Prelude.{◌≡◌, ◌+◌, ◌≤◌, [], ◌∷◌, length, drop, IfOk};
 ghost use Rattle.table.specs.Tables.{formulas_of, rules_of};
-ghost use Rattle.watch_lib.specs.Laws.{Only};
-ghost use Rattle.monitor.specs.Book.{ground};
+ghost use Rattle.watch_lib.specs.Laws.{GoesOn, Only};
+ghost use Rattle.monitor.specs.Book.{ground_on};
 ghost use Rattle.watch_lib.specs.Watched.{Traced, Watched};
 
 use crate::lines::Line;
@@ -39,7 +39,7 @@ fn watch_log<R: Growing + Drop>(
     requires empty { R.Readable.states log ≡ [] }
     requires used { rules.used ≤ length input.now }
     requires small { length input.now ≤ 32768 }
-    ensures { IfOk result (λ v. Traced (ground (formulas_of rules.value.draft) (rules_of rules.value.draft) (R.Growing.room log)) (drop rules.used input.now) (length (formulas_of rules.value.draft) + length (rules_of rules.value.draft) + 3) v.items) }
+    ensures { IfOk result (λ v. Traced (ground_on rules.value (R.Growing.room log)) (drop rules.used input.now) (length (formulas_of rules.value.draft) + length (rules_of rules.value.draft) + 3) v.items) }
 {
     let place = rules.value.formulas().len() + rules.value.rules().len() + 3;
     Watcher::new(rules.value, log).follow(heap, &input[rules.used..], place)
@@ -60,10 +60,11 @@ fn watch_input(heap: Global, input: &[u8]) -> Result<Vec<Line>, AllocError>
 }
 
 // The lines that are printed of an input: a rules text and trace lines.
-#[tactic(auto, using(crate::proofs::Unique::one_output))]
+#[tactic(auto, using(crate::proofs::Unique::one_output, crate::proofs::GoingOn::goes_on_lem))]
 pub fn watch(heap: Global, input: &[u8]) -> Result<Vec<Line>, AllocError>
     ensures lines { IfOk result (λ v. Watched input.now v.items) }
     ensures only { IfOk result (λ v. Only input.now v.items) }
+    ensures goes_on { IfOk result (λ v. GoesOn input.now v.items) }
 {
     if input.len() > MOST_BYTES {
         return only(heap, Line::refused(Refusal::MemoryTooShort, 0));

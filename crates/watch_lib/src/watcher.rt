@@ -1,6 +1,6 @@
 // A monitor while the lines of a log are taken.
 ghost use Rattle.std.specs.Prelude.{◌≡◌, ◌≤◌, [], length};
-ghost use Rattle.monitor.specs.Book.{rules_in};
+ghost use Rattle.monitor.specs.Live.{table_rules, Own, IsNew};
 
 use monitor::live::Monitor;
 use records::growing::Growing;
@@ -12,8 +12,8 @@ use table::finished::Table;
 pub(crate) struct Watcher<R: Growing> {
     pub(crate) monitor: Monitor<R>,
     pub(crate) rules: usize,
-    ghost own: { monitor.book.count ≡ length (R.Readable.states monitor.log) },
-    ghost ruled: { rules ≡ length (rules_in monitor.book) },
+    ghost own: { Own monitor },
+    ghost ruled: { rules ≡ length (table_rules monitor) },
     ghost few: { rules ≤ 16 },
 }
 
@@ -21,8 +21,7 @@ impl<R: Growing> Watcher<R> {
     // A new monitor over a table and an empty record.
     pub(crate) fn new(table: Table, log: R) -> Watcher<R>
         requires empty { R.Readable.states log ≡ [] }
-        ensures table { result.monitor.book.table ≡ table }
-        ensures log { result.monitor.log ≡ log }
+        ensures { IsNew table log result.monitor }
     {
         let rules = table.rules().len();
         Watcher {

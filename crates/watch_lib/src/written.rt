@@ -1,7 +1,7 @@
 // Lines of output as text.
 ghost use Rattle.std.specs.Prelude.{◌≡◌, IfOk, Some, string_bytes};
 ghost use Rattle.watch_lib.specs.Lines.{line_text, lines_text};
-ghost use Rattle.watch_lib.specs.Printed.{Printed};
+ghost use Rattle.watch_lib.specs.Printed.{Printed, TextGoesOn};
 
 use crate::lines::Line;
 use crate::watch::watch;
@@ -20,13 +20,6 @@ impl fmt::Display for Line {
     }
 }
 
-// The text of a line, without a line end, for a caller that keeps it; programs write a line by `Display`.
-pub fn text_of(heap: Global, line: Line) -> Result<String, AllocError>
-    ensures { IfOk result (λ s. string_bytes s ≡ line_text line) }
-{
-    format!(in heap; "{line}")
-}
-
 // The lines, each with its line end.
 fn joined(heap: Global, lines: &[Line]) -> Result<String, AllocError>
     ensures { IfOk result (λ s. string_bytes s ≡ lines_text lines.now) }
@@ -40,7 +33,8 @@ fn joined(heap: Global, lines: &[Line]) -> Result<String, AllocError>
 
 // What is printed of an input, as one text.
 pub fn output_of(heap: Global, input: &[u8]) -> Result<String, AllocError>
-    ensures { IfOk result (λ s. Printed input.now (string_bytes s)) }
+    ensures printed { IfOk result (λ s. Printed input.now (string_bytes s)) }
+    ensures goes_on { IfOk result (λ s. TextGoesOn input.now (string_bytes s)) }
 {
     let lines = watch(heap, input)?;
     joined(heap, lines.as_slice())

@@ -1,4 +1,4 @@
-// `watch`, on an input that is one byte too long.
+// `watch`, on an input that is one byte too long: that of `watch_full` and one byte more.
 #![tactic(auto)]
 
 use std::io;

@@ -8,8 +8,8 @@ use Rattle.monitor.specs.Book.{formulas_in}
 use Rattle.monitor.proofs.Followed.{dates, right_after, enough, not_declined}
 use Rattle.monitor.proofs.book.Book.follow.Goals as goal
 
-pub returns-in-Ok-clause-right : goal.returns-in-Ok-clause-right
-returns-in-Ok-clause-right g c law small =
+pub returns-in-Ok-clause-followed : goal.returns-in-Ok-clause-followed
+returns-in-Ok-clause-followed g c law small =
     let xs = g.R.Readable.states c.args.log.now in
     let old = c.args.self.now in
     let b = c.recount.new.self in
@@ -19,9 +19,10 @@ returns-in-Ok-clause-right g c law small =
     subst (λ (t : Table). Labelled dates 256 (formulas_of t.draft) xs old.cells old.work b.cells c.label_whole.new.work) (sym same.0)
     (subst (λ (ys : List Dated). Labelled dates 256 (formulas_of old.table.draft) xs old.cells old.work ys c.label_whole.new.work) (sym same.2) done.1) in
     let p = enough (length (formulas_in b)) (length xs) (in_order b.table).few small in
-    right_after xs b old.cells old.work c.label_whole.new.work labelled (same.1 ∙ done.0) small (omega (arith, b.wide)) c.recount.ensures.right
+    let counted = same.1 ∙ done.0 in
+    (counted, right_after xs b old.cells old.work c.label_whole.new.work labelled counted small (omega (arith, b.wide)) c.recount.ensures.right)
 
-pub returns-in_default-clause-right : goal.returns-in_default-clause-right
-returns-in_default-clause-right g c law small =
+pub returns-in_default-clause-followed : goal.returns-in_default-clause-followed
+returns-in_default-clause-followed g c law small =
     let old = c.args.self.now in
     absurd (not_declined (formulas_of old.table.draft) (g.R.Readable.states c.args.log.now) (length old.cells) (length old.work) (in_order old.table).few small law old.wide old.spare c.in_default.field-0 c.in_default.ensures.0)
