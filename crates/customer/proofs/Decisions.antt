@@ -46,11 +46,11 @@ module _ (t : Table) (room before : ℕ) (xs : List State) (f i : ℕ) (fresh : 
   by_last text reads (Err (undecided.Text e)) h = absurd h
   by_last text reads (Err (undecided.Refused why)) h = (t, reads, declined why h)
 
-pub decided : (text : List ℕ) (t : Table) (room before : ℕ) (xs : List State) (f i : ℕ) (G : Ground) (ys : List State) (r : Result Verdict Undecided) →
-    before ≡ 0 → Tabled text t → G ≡ ground_on t room → ys ≡ taken_in (ground_on t room) [] xs → LastReads G ys f i r → Whether text room before xs f i r
-decided text t room before xs f i G ys r fresh reads ground states h =
+pub decided : (text : List ℕ) (t : Table) (room before : ℕ) (xs : List State) (f i : ℕ) (K : Ground) (ws : List State) (r : Result Verdict Undecided) →
+    before ≡ 0 → Tabled text t → K ≡ ground_on t room → ws ≡ taken_in (ground_on t room) [] xs → LastReads K ws f i r → Whether text room before xs f i r
+decided text t room before xs f i K ws r fresh reads stands states h =
     by_last t room before xs f i fresh text reads r
-    (subst (λ H. LastReads H (taken_in (ground_on t room) [] xs) f i r) ground (subst (λ zs. LastReads G zs f i r) states h))
+    (subst (λ H. LastReads H (taken_in (ground_on t room) [] xs) f i r) stands (subst (λ zs. LastReads K zs f i r) states h))
 
 pub unread : (text : List ℕ) (room before : ℕ) (xs : List State) (f i : ℕ) (why : Undecided) (r : Result Verdict Undecided) →
     (e : ReadFault) × (why ≡ undecided.Text e) × Refused text e → r ≡ Err why → Whether text room before xs f i r

@@ -1,3 +1,6 @@
 pub mod Alarms
 pub mod Following
 pub mod Deciding
+pub mod Wide
+pub mod Slot
+pub mod Tried
