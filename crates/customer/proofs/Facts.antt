@@ -19,17 +19,17 @@ use Rattle.records.specs.Growth.{Appended}
 use Rattle.answers.specs.declared.types.Answer.{Answer}
 use Rattle.answers.specs.declared.types.Answer.TheVariants.{Reads, Stands, Counts, Tells}
 use Rattle.answers.specs.declared.types.Call.{Call}
-use Rattle.answers.specs.declared.types.Call.TheVariants.{Append}
+use Rattle.answers.specs.declared.types.Call.TheVariants.{Append, LabelAt, StandingAt, NoticeOf}
 use Rattle.answers.specs.Tests.{carried_to}
 use Rattle.answers.specs.Answers.{Ground, told, after, accepted}
 use Rattle.answers.specs.Law.{foreign, Ran, Judged, Takes, LabelIs, StandingIs, TallyIs, NoticeIs, HappensAt}
-use Rattle.answers.specs.Lasting.{Lasts}
+use Rattle.answers.specs.Lasting.{Lasts, CallIs, NeverTakenBack}
 use Rattle.answers.specs.Refused.{QueriesRefused}
 use Rattle.monitor.specs.Book.{ground}
 use Rattle.monitor.specs.Meant.{Meant, HoldsWeakly, HoldsStrongly, Expects}
 use Rattle.monitor.specs.Promises.{Promised}
 use Rattle.customer.specs.Slot.{slot_formulas, slot_rule}
-use Rattle.customer.specs.Tried.{freed, named, two, four, five, slots, is_freed_next, tried_calls, lost, raised, not_lost, tally_four, tally_five, tried_answers, held_answers, JudgedSo, MeantSo, LastsSo, RefusedSo, PromisedSo}
+use Rattle.customer.specs.Tried.{freed, named, two, four, five, slots, is_freed_next, tried_calls, lost, raised, not_lost, tally_four, tally_five, tried_answers, held_answers, JudgedSo, MeantSo, LastsSo, RefusedSo, PromisedSo, KeptSo}
 
 -- ── What is told ──
 takes_named : Takes slots two named
@@ -237,3 +237,31 @@ all_refused G start calls answers ends some three long ran =
 pub holds_some : {U E : Type 0} (xs : List State) (x : State) (r : Result U E) (ys : List State) → Appended xs 16 x r ys → 0 < length ys
 holds_some xs x (Ok u) ys h = rw h.1 (omega (arith, length-append xs (x ∷ [])))
 holds_some xs x (Err e) ys h = rw h.1 (omega (arith, h.0))
+
+-- ── What is not taken back ──
+first_standing : CallIs tried_calls 4 (StandingAt 0 3 4)
+first_standing = (omega arith, refl)
+
+later_standing : CallIs tried_calls 9 (StandingAt 0 3 5)
+later_standing = (omega arith, refl)
+
+first_label : CallIs tried_calls 5 (LabelAt 2 1 2)
+first_label = (omega arith, refl)
+
+later_label : CallIs tried_calls 10 (LabelAt 2 1 5)
+later_label = (omega arith, refl)
+
+first_notice : CallIs tried_calls 6 (NoticeOf 4 0)
+first_notice = (omega arith, refl)
+
+later_notice : CallIs tried_calls 11 (NoticeOf 4 0)
+later_notice = (omega arith, refl)
+
+pub kept_so : (calls : List Call) (answers : List (Result Answer Refusal)) → calls ≡ tried_calls → answers ≡ tried_answers → NeverTakenBack calls answers → KeptSo tried_answers
+kept_so calls answers same said law =
+    let kept : NeverTakenBack tried_calls tried_answers = subst (λ cs. NeverTakenBack cs tried_answers) same (subst (NeverTakenBack calls) said law) in
+    record {
+      standings = kept.standings 4 9 0 3 4 5 (Violated 4) (omega arith) first_standing later_standing (omega arith) (λ e. cc) refl;
+      labels = kept.labels 5 10 2 1 2 5 is.True (omega arith) first_label later_label (omega arith) (λ e. cc) refl;
+      notices = kept.notices 6 11 4 0 (Some lost) (omega arith) first_notice later_notice refl;
+    }

@@ -1,5 +1,5 @@
 -- A small log over a record in two arrays, and what the law of a monitor says of it: one fact from each of its clauses.
-use Rattle.std.specs.Prelude.{◌≡◌, ℕ, ◌+◌, ◌<◌, ◌≤◌, List, [], ◌∷◌, length, Some, None, Ok, Err, Result}
+use Rattle.std.specs.Prelude.{◌≡◌, ℕ, ◌+◌, ◌<◌, ◌≤◌, ◌⊎◌, List, [], ◌∷◌, length, Some, None, Ok, Err, Result}
 use Rattle.logic.specs.declared.types.State.{State}
 use Rattle.logic.specs.States.{Trace, Begins, no_reference}
 use Rattle.logic.specs.Lawful.{Lawful, LawfulRecord}
@@ -22,6 +22,7 @@ use Rattle.answers.specs.declared.types.Call.{Call}
 use Rattle.answers.specs.declared.types.Call.TheVariants.{Append, LabelAt, StandingAt, TallyOf, NoticeOf}
 use Rattle.answers.specs.Answers.{Ground}
 use Rattle.answers.specs.Law.{foreign, Takes, LabelIs, StandingIs, NoticeIs, ToldOnce, NeverTold, HappensAt}
+use Rattle.answers.specs.Lasting.{AnswerIs, PointRefused}
 use Rattle.answers.specs.Refused.{LabelRefused, StandingRefused, TallyRefused, NoticeRefused}
 use Rattle.monitor.specs.Book.{ground}
 use Rattle.monitor.specs.Meant.{HoldsWeakly, HoldsStrongly, Expects, GoesOn}
@@ -161,3 +162,9 @@ pub record PromisedSo : Type 0 where
   pub goes_on : GoesOn four
   pub few : length four ≤ 256
   pub roomy : length four ≤ 16
+
+-- What `NeverTakenBack` says of the answers: calls 9 to 11, counted from 0, ask again what calls 4 to 6 asked, after one state more.
+pub record KeptSo (answers : List (Result Answer Refusal)) : Type 0 where
+  pub standings : AnswerIs answers 9 (Stands (Violated 4)) ⊎ PointRefused answers 9
+  pub labels : AnswerIs answers 10 (Reads is.True) ⊎ PointRefused answers 10
+  pub notices : AnswerIs answers 11 (Tells (Some lost))

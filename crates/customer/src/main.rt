@@ -14,9 +14,11 @@ mod wide;
 
 use crate::halves::HalvesRecord;
 use crate::heap::HeapRecord;
-use crate::printing::{print_alarm, print_decided, print_followed, print_run};
-use crate::slot::{TAKEN, slot_table};
-use records::growing::Growing;
+use crate::printing::{
+    print_alarm, print_decided, print_followed, print_labels, print_run, print_told,
+};
+use crate::slot::slot_table;
+use crate::tried::{held, tried};
 use std::io;
 
 fn main(rt: HostRuntime) -> io::Result<()> {
@@ -31,9 +33,9 @@ fn main(rt: HostRuntime) -> io::Result<()> {
     println!(rt; "record=heap labels=wide")?;
     print_run(&rt, table, HeapRecord::new(rt.alloc(), 3)?)?;
     println!(rt; "record=halves labels=wide")?;
-    print_run(&rt, table, HalvesRecord::new())?;
-    println!(rt; "record=held labels=wide")?;
-    let mut held = HeapRecord::new(rt.alloc(), 3)?;
-    let _ = held.append(TAKEN);
-    print_run(&rt, table, held)
+    print_labels(&rt, table, HalvesRecord::new())?;
+    println!(rt; "record=halves")?;
+    print_told(&rt, tried())?;
+    println!(rt; "record=held")?;
+    print_told(&rt, held())
 }

@@ -1,12 +1,12 @@
 // What the program tells, in lines of text.
-ghost use Rattle.std.specs.Prelude.{◌≡◌, true, false};
+ghost use Rattle.std.specs.Prelude.{◌≡◌, ◌<◌, ◌≤◌, true, false};
 ghost use Rattle.customer.specs.Wide.{wide, read_as};
 
 use crate::alarm::Alarm;
 use crate::deciding::{Undecided, decide};
 use crate::following::{follow, is_lost};
 use crate::slot::{CONTENT, FORMULAS, FREED, LOG, RULE, TAKEN, TEXT};
-use crate::wide::Wide;
+use crate::wide::{Wide, label_wide};
 use answers::types::{Answer, Call};
 use expectations::types::Verdict;
 use labels::LabelKind;
@@ -15,12 +15,15 @@ use records::growing::Growing;
 use refusals::Refusal;
 use runs::run::run;
 use std::io;
+use table::defects::Defect;
 use table::finished::Table;
 
 // How many states the list of calls leaves, and how many labels they have.
 const STATES: usize = 3;
 
 const CELLS: usize = FORMULAS * STATES;
+
+const LOG_CELLS: usize = FORMULAS * LOG.len();
 
 const CALLS: [Call; 8] = [
     Call::Append(TAKEN),
@@ -33,11 +36,14 @@ const CALLS: [Call; 8] = [
     Call::LabelAt(CONTENT, 4, 4),
 ];
 
-fn print_answer(rt: &HostRuntime, answer: Result<Answer, Refusal>) -> io::Result<()> {
-    match answer {
-        Ok(answer) => println!(rt; "{answer}"),
-        Err(refusal) => println!(rt; "{refusal}"),
+fn print_answers(rt: &HostRuntime, answers: &[Result<Answer, Refusal>]) -> io::Result<()> {
+    for answer in answers {
+        match answer {
+            Ok(answer) => println!(rt; "{answer}")?,
+            Err(refusal) => println!(rt; "{refusal}")?,
+        }
     }
+    Ok(())
 }
 
 // What has become of the expectation of state 3, from state to state, and whether it is lost in the end.
@@ -47,9 +53,7 @@ pub fn print_followed<R: Growing + Drop>(rt: &HostRuntime, table: Table, log: R)
     if let Err(refusal) = follow(&mut monitor, RULE, 3, &LOG, &mut told) {
         println!(rt; "{refusal}")?;
     }
-    for answer in &told {
-        print_answer(rt, *answer)?;
-    }
+    print_answers(rt, &told)?;
     println!(rt; "lost={}", is_lost(&monitor, RULE, 3))
 }
 
@@ -77,34 +81,64 @@ pub fn print_decided<R: Growing + Drop>(rt: &HostRuntime, log: R, state: usize) 
     }
 }
 
-// What the last of the states reads of a label.
-fn read_last(label: Wide) -> Verdict
-    ensures { result ≡ read_as (wide label.weak label.strong true 3) (wide label.weak label.strong false 3) }
+// What a point reads of a label.
+fn read_at(label: Wide, point: usize) -> Verdict
+    ensures { 0 < point → point ≤ 128 → result ≡ read_as (wide label.weak label.strong true point) (wide label.weak label.strong false point) }
 {
-    if label.read(false, STATES) {
+    if label.read(false, point) {
         Verdict::True
-    } else if label.read(true, STATES) {
+    } else if label.read(true, point) {
         Verdict::Unknown
     } else {
         Verdict::False
     }
 }
 
-// The answers to a list of calls on a new monitor over a record, and its record labelled whole.
+// What the last state reads of a row of labels, one for each state.
+fn print_content(rt: &HostRuntime, row: &[Wide]) -> io::Result<()> {
+    for (s, label) in (1..).zip(row) {
+        println!(rt; "f={CONTENT} s={s} reads={}", read_at(*label, row.len()))?;
+    }
+    Ok(())
+}
+
+// The answers to a list of calls on a new monitor over a record, and the labels of its record.
 pub fn print_run<R: Growing + Drop>(rt: &HostRuntime, table: Table, log: R) -> io::Result<()> {
     let mut answers = [Err(Refusal::ForeignRecord); CALLS.len()];
     let mut labels = [Wide::unknown(); CELLS];
     let mut work = [Wide::unknown(); CELLS];
     let outcome = run(table, log, &CALLS, &mut answers, &mut labels, &mut work);
-    for answer in &answers {
-        print_answer(rt, *answer)?;
-    }
+    print_answers(rt, &answers)?;
     match outcome.labelled {
-        Ok(n) => println!(rt; "labelled={n}")?,
-        Err(refusal) => return println!(rt; "{refusal}"),
+        Ok(_) => print_content(rt, &labels[CONTENT * STATES..]),
+        Err(refusal) => println!(rt; "{refusal}"),
     }
-    for (s, label) in (1..).zip(&labels[CONTENT * STATES..]) {
-        println!(rt; "f={CONTENT} s={s} reads={}", read_last(*label))?;
+}
+
+// The labels of a record that holds the log, without a monitor.
+pub fn print_labels<R: Growing + Drop>(
+    rt: &HostRuntime,
+    table: Table,
+    mut log: R,
+) -> io::Result<()> {
+    for state in LOG {
+        let _ = log.append(state);
     }
-    Ok(())
+    let mut labels = [Wide::unknown(); LOG_CELLS];
+    let mut work = [Wide::unknown(); LOG_CELLS];
+    match label_wide(&table, &log, &mut labels, &mut work) {
+        Ok(_) => print_content(rt, &labels[CONTENT * LOG.len()..]),
+        Err(refusal) => println!(rt; "{refusal}"),
+    }
+}
+
+// The answers of the small log, or the defect of its table.
+pub fn print_told<const N: usize>(
+    rt: &HostRuntime,
+    told: Result<[Result<Answer, Refusal>; N], Defect>,
+) -> io::Result<()> {
+    match told {
+        Ok(answers) => print_answers(rt, &answers),
+        Err(defect) => println!(rt; "{defect}"),
+    }
 }

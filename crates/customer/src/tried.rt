@@ -1,6 +1,6 @@
 // A small log, and what the law of a monitor says of it.
 ghost use Rattle.std.specs.Prelude.{◌≡◌, Ok};
-ghost use Rattle.customer.specs.Tried.{tried_calls, tried_answers, held_answers, PromisedSo};
+ghost use Rattle.customer.specs.Tried.{tried_calls, tried_answers, held_answers, PromisedSo, KeptSo};
 
 use crate::halves::HalvesRecord;
 use crate::slot::{CONTENT, FREED, RULE, TAKEN, slot_table};
@@ -44,6 +44,7 @@ fn calls() -> [Call; CALLS]
 pub fn tried() -> Result<[Result<Answer, Refusal>; CALLS], Defect>
     ensures told { result ≡ Ok tried_answers }
     ensures law { PromisedSo }
+    ensures kept { KeptSo tried_answers }
 {
     let table = slot_table()?;
     Monitor::new(table, HalvesRecord::new()).judge();
