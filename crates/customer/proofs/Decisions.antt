@@ -1,5 +1,5 @@
 -- What `decide` answers, by what its last label is told as.
-use Rattle.std.proofs.Common.{◌≡◌, ℕ, ◌<◌, List, [], ◌∷◌, length, Ok, Err, Result, MatchResult, refl, sym, ap, ◌∙◌, subst}
+use Rattle.std.proofs.Common.{◌≡◌, ℕ, ◌<◌, List, [], ◌∷◌, length, Ok, Err, Result, refl, sym, ap, ◌∙◌, subst}
 use Rattle.logic.specs.declared.types.State.{State}
 use Rattle.refusals.specs.declared.Refusal.{Refusal}
 use Rattle.refusals.specs.declared.Refusal.TheVariants as refusal
@@ -11,16 +11,13 @@ use Rattle.answers.specs.Answers.{Ground}
 use Rattle.answers.specs.Refused.{LabelRefused}
 use Rattle.monitor.specs.Book.{ground_on}
 use Rattle.customer.specs.Following.{taken_in}
-use Rattle.customer.specs.Deciding.{Tabled, LastReads, Decided, Declined, Undecidable}
+use Rattle.customer.specs.Deciding.{Tabled, LastReads, Declined, Whether}
 use Rattle.customer.specs.declared.deciding.Undecided.{Undecided}
 use Rattle.customer.specs.declared.deciding.Undecided.TheVariants as undecided
 
 pub none_is : {A : Type 0} (xs : List A) → length xs ≡ 0 → xs ≡ []
 none_is [] e = refl
 none_is (x ∷ xs) e = cc
-
-abbrev pub Whether : (text : List ℕ) → (room before : ℕ) → List State → (f i : ℕ) → Result Verdict Undecided → Type 0
-Whether text room before xs f i r = MatchResult r (λ v. Decided text room xs f i v) (λ why. Undecidable text room before xs f i why)
 
 module _ (t : Table) (room before : ℕ) (xs : List State) (f i : ℕ) (fresh : before ≡ 0) where
   abbrev G : Ground

@@ -58,3 +58,8 @@ Declined t room before xs f i why = (before ≡ 0) × Over t room xs (λ G ys. L
 abbrev pub Undecidable : (text : List ℕ) → (room before : ℕ) → List State → (f i : ℕ) → Undecided → Type 0
 Undecidable text room before xs f i (undecided.Text e) = Refused text e
 Undecidable text room before xs f i (undecided.Refused why) = (t : Table) × Tabled text t × Declined t room before xs f i why
+
+-- It is decided, or it is said why not.
+abbrev pub Whether : (text : List ℕ) → (room before : ℕ) → List State → (f i : ℕ) → Result Verdict Undecided → Type 0
+Whether text room before xs f i (Ok v) = Decided text room xs f i v
+Whether text room before xs f i (Err why) = Undecidable text room before xs f i why

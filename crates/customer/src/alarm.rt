@@ -1,7 +1,7 @@
 // A monitor of one rule with an alarm, which never goes off again.
-ghost use Rattle.std.specs.Prelude.{◌≡◌, ◌+◌, ◌<◌, true, false, length, is_ok, nat_lt, MatchResult};
+ghost use Rattle.std.specs.Prelude.{◌≡◌, ◌<◌, true, false, length, is_ok, nat_lt, IfOk, IfErr};
 ghost use Rattle.answers.specs.declared.types.Call.TheVariants.{Append};
-ghost use Rattle.monitor.specs.Live.{table_of, log_of, states_of, room_of, ground_of, Own, unless_refused, tally_at, states_after};
+ghost use Rattle.monitor.specs.Live.{table_of, states_of, room_of, ground_of, Own, IsNew, append_answer, tally_at, states_after};
 ghost use Rattle.customer.specs.Alarms.{Unwatched};
 
 use logic::types::State;
@@ -25,7 +25,8 @@ pub struct Alarm<R: Growing> {
 impl<R: Growing + Drop> Alarm<R> {
     // An alarm for a rule of the table, over an empty record.
     pub fn new(table: Table, log: R, rule: usize) -> Result<Alarm<R>, Refusal>
-        ensures { MatchResult result (λ a. (table_of a.monitor ≡ table) × (log_of a.monitor ≡ log) × (a.rule ≡ rule) × (a.on ≡ false)) (λ why. Unwatched table (length (R.Readable.states log)) rule why) }
+        ensures new { IfOk result (λ a. IsNew table log a.monitor × (a.rule ≡ rule) × (a.on ≡ false)) }
+        ensures refused { IfErr result (λ why. Unwatched table (length (R.Readable.states log)) rule why) }
     {
         if log.count() > 0 {
             return Err(Refusal::ForeignRecord);
@@ -44,7 +45,7 @@ impl<R: Growing + Drop> Alarm<R> {
 impl<R: Growing> Alarm<R> {
     // Takes one more state, or refuses it and changes nothing. An alarm that is on stays on.
     pub fn take(&mut self, state: State) -> Result<usize, Refusal>
-        ensures is { result ≡ unless_refused self.old.monitor (Append state) (length (states_of self.old.monitor) + 1) }
+        ensures is { result ≡ append_answer self.old.monitor state }
         ensures states { states_of self.new.monitor ≡ states_after self.old.monitor (Append state) }
         ensures same { is_ok result ≡ false → (self.new.monitor ≡ self.old.monitor) × (self.new.on ≡ self.old.on) }
         ensures lasting { self.old.on ≡ true → self.new.on ≡ true }

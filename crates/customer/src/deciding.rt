@@ -1,6 +1,6 @@
 // From the bytes of a rules text and the states of a log to what is so on every lawful endless trace that begins with them.
 ghost use Rattle.std.specs.Prelude.{◌≡◌, [], length, IfOk, MatchResult};
-ghost use Rattle.customer.specs.Deciding.{Tabled, Decided, Undecidable, LastReads};
+ghost use Rattle.customer.specs.Deciding.{Tabled, LastReads, Whether};
 ghost use Rattle.customer.specs.Following.{taken_in};
 ghost use Rattle.rulestexts.specs.Texts.{Refused};
 ghost use Rattle.customer.specs.declared.deciding.Undecided.TheVariants.{Text};
@@ -68,7 +68,7 @@ pub fn decide<R: Growing + Drop>(
     formula: usize,
     state: usize,
 ) -> Result<Verdict, Undecided>
-    ensures { MatchResult result (λ v. Decided text.now (R.Growing.room log) states.now formula state v) (λ why. Undecidable text.now (R.Growing.room log) (length (R.Readable.states log)) states.now formula state why) }
+    ensures { Whether text.now (R.Growing.room log) (length (R.Readable.states log)) states.now formula state result }
 {
     let table = table_of_text(text)?;
     if log.count() > 0 {

@@ -1,9 +1,8 @@
 // One expectation, followed from state to state.
-ghost use Rattle.std.specs.Prelude.{◌≡◌, ℕ, ◌+◌, ◌<◌, ◌≤◌, true, take, length, is_ok, MatchResult, slice_index_or};
+ghost use Rattle.std.specs.Prelude.{◌≡◌, ◌<◌, ◌≤◌, true, false, length, is_ok, IfErr};
 ghost use Rattle.refusals.specs.declared.Refusal.TheVariants.{MemoryTooShort};
-ghost use Rattle.answers.specs.Law.{foreign};
 ghost use Rattle.monitor.specs.Live.{states_of, ground_of, Own};
-ghost use Rattle.customer.specs.Following.{taken_in, told_of, StaysDecided, Lost};
+ghost use Rattle.customer.specs.Following.{EachTold, StaysDecided, Lost};
 
 use answers::types::{Answer, Call};
 use expectations::types::Standing;
@@ -22,9 +21,11 @@ pub fn follow<R: Growing>(
     xs: &[State],
     told: &mut [Result<Answer, Refusal>],
 ) -> Result<(), Refusal>
-    ensures fits { MatchResult result (λ _. length xs.now ≤ length told.old) (λ why. (why ≡ MemoryTooShort) × (length told.old < length xs.now) × (monitor.new ≡ monitor.old) × (told.new ≡ told.old)) }
+    ensures fits { is_ok result ≡ true → length xs.now ≤ length told.old }
+    ensures refused { IfErr result (λ why. (why ≡ MemoryTooShort) × (length told.old < length xs.now)) }
+    ensures same { is_ok result ≡ false → (monitor.new ≡ monitor.old) × (told.new ≡ told.old) }
     ensures own { Own monitor.old → Own monitor.new }
-    ensures each { is_ok result ≡ true → Own monitor.old → (k : ℕ) → k < length xs.now → slice_index_or told.new k foreign ≡ told_of (ground_of monitor.old) (taken_in (ground_of monitor.old) (states_of monitor.old) (take (k + 1) xs.now)) rule state }
+    ensures each { is_ok result ≡ true → Own monitor.old → EachTold monitor.old xs.now rule state told.new }
     ensures for_good { is_ok result ≡ true → Own monitor.old → StaysDecided (length xs.now) told.new }
 {
     if told.len() < xs.len() {

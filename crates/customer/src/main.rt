@@ -7,6 +7,7 @@ mod deciding;
 mod following;
 mod halves;
 mod heap;
+mod labelled;
 mod printing;
 mod slot;
 mod tried;

@@ -5,8 +5,9 @@ ghost use Rattle.customer.specs.Wide.{wide, read_as};
 use crate::alarm::Alarm;
 use crate::deciding::{Undecided, decide};
 use crate::following::{follow, is_lost};
+use crate::labelled::label_wide;
 use crate::slot::{CONTENT, FORMULAS, FREED, LOG, RULE, TAKEN, TEXT};
-use crate::wide::{Wide, label_wide};
+use crate::wide::Wide;
 use answers::types::{Answer, Call};
 use expectations::types::Verdict;
 use labels::LabelKind;
@@ -83,7 +84,7 @@ pub fn print_decided<R: Growing + Drop>(rt: &HostRuntime, log: R, state: usize) 
 
 // What a point reads of a label.
 fn read_at(label: Wide, point: usize) -> Verdict
-    ensures { 0 < point → point ≤ 128 → result ≡ read_as (wide label.weak label.strong true point) (wide label.weak label.strong false point) }
+    ensures { 0 < point → point ≤ 128 → result ≡ read_as (wide label.weak label.strong) point }
 {
     if label.read(false, point) {
         Verdict::True

@@ -1,15 +1,9 @@
 // A kind of label for logs of up to 128 states: two masks of 128 bits.
-ghost use Rattle.std.specs.Prelude.{◌≡◌, ℕ, ◌+◌, ◌<◌, nat_lt, true, false, is_ok};
+ghost use Rattle.std.specs.Prelude.{◌≡◌, ℕ, ◌+◌, ◌<◌, nat_lt, true, false};
 ghost use Rattle.labels.specs.Readings.{Sound};
-ghost use Rattle.table.specs.Tables.{formulas_of};
-ghost use Rattle.labelling.specs.Whole.{Answered};
-ghost use Rattle.customer.specs.Wide.{wide, bit, Stays, EachMeans};
+ghost use Rattle.customer.specs.Wide.{wide, bit, Stays};
 
-use labelling::whole::label_whole;
 use labels::LabelKind;
-use records::readable::Readable;
-use refusals::Refusal;
-use table::finished::Table;
 
 const REACH: usize = 128;
 
@@ -105,17 +99,4 @@ fn bits_before(i: usize) -> u128
         1..=REACH => (1 << (i - 1)) - 1,
         _ => !0,
     }
-}
-
-// Labels a record whole. Each label of a formula that is not loose means the formula.
-pub fn label_wide<R: Readable>(
-    table: &Table,
-    log: &R,
-    labels: &mut [Wide],
-    work: &mut [Wide],
-) -> Result<usize, Refusal>
-    ensures answered { Answered (λ (x : _). wide x.weak x.strong) 128 (formulas_of table.now.draft) (R.states log.now) labels.old work.old result labels.new work.new }
-    ensures means { is_ok result ≡ true → EachMeans (λ (x : _). wide x.weak x.strong) 128 (formulas_of table.now.draft) (R.states log.now) labels.new }
-{
-    label_whole(table, log, labels, work)
 }
