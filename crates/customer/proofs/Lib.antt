@@ -1,0 +1,4 @@
+pub mod Steps
+pub mod Decisions
+pub mod Bits
+pub mod Facts
