@@ -37,7 +37,7 @@ loop-k-preserved g c =
           ∙ ap₂ (λ H ws. after H ws (Append x)) same (inv.states o) ∙ sym (taken_more G (states_of start) xs k blank c.loop-k-test.true) in
           below_more _ k
           (λ i h. let ne : i ≢ k = omega arith in get_or-set_other c.loop-k.told k i c.ask.result foreign ne ∙ inv.each o i h)
-          (get_or-set_same c.loop-k.told k c.ask.result foreign fits ∙ c.ask.ensures
+          (get_or-set_same c.loop-k.told k c.ask.result foreign fits ∙ c.ask.ensures.told
           ∙ (c.judge-in-loop-k.ensures (a.own (inv.own o))).replies call
           ∙ ap (λ n. told (ground_of m1) (states_of m1) (StandingAt c.args.rule c.args.state n)) c.count.ensures
           ∙ ap₂ (λ H ws. told_of H ws c.args.rule c.args.state) same1 states);
