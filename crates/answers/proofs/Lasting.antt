@@ -12,17 +12,27 @@ use Rattle.expectations.specs.declared.types.Verdict.TheVariants as is
 use Rattle.expectations.specs.declared.types.Standing.{Standing}
 use Rattle.expectations.specs.declared.types.Standing.TheVariants.{Pending}
 use Rattle.expectations.specs.declared.types.Notice.{Notice}
+use Rattle.expectations.specs.declared.types.Tally.{Tally}
+use Rattle.expectations.specs.Expectations.{tallied}
+use Rattle.expectations.specs.Counted.{NoFewer}
 use Rattle.expectations.proofs.Stays.{decisions_last_lem}
 use Rattle.answers.specs.declared.types.Call.{Call}
 use Rattle.answers.specs.declared.types.Call.TheVariants.{Append, LabelAt, StandingAt, TallyOf, NoticeOf}
 use Rattle.answers.specs.declared.types.Answer.{Answer}
-use Rattle.answers.specs.declared.types.Answer.TheVariants.{Reads, Stands, Tells}
+use Rattle.answers.specs.declared.types.Answer.TheVariants.{Reads, Stands, Counts, Tells}
 use Rattle.answers.specs.Answers.{Ground, refusal_of, after, accepted, told}
-use Rattle.answers.specs.Law.{foreign, with_one_more, LabelIs, StandingIs, NoticeIs, Takes, Founded, Judged, Ran}
+use Rattle.answers.specs.Law.{foreign, with_one_more, LabelIs, StandingIs, TallyIs, NoticeIs, Takes, Founded, Judged, Ran}
 use Rattle.answers.specs.Lasting.{Lasts, CallIs, AnswerIs, PointRefused, NeverTakenBack}
 use Rattle.answers.proofs.Accepting.{grown_keeps, lawful_after, small_after, accepted_lawful, accepted_small, nothing_lawful}
 use Rattle.answers.proofs.Judging.{judged}
-use Rattle.answers.proofs.Telling.{asked_more, label_told, label_tells, label_beyond, standing_asked_more, standing_told, standing_tells, standing_beyond, notice_point}
+use Rattle.answers.proofs.Telling.{asked_more, label_told, label_tells, label_beyond, standing_asked_more, standing_told, standing_tells, standing_beyond, tally_told, tally_tells, notice_point}
+
+-- ── Counts that do not fall ──
+same_tally : (t u : Tally) → t ≡ u → NoFewer t u
+same_tally t u e = subst (NoFewer t) e (omega arith, omega arith, omega arith)
+
+no_fewer : (t u v : Tally) → NoFewer t u → NoFewer u v → NoFewer t v
+no_fewer t u v a b = (omega (arith, a.0, b.0), omega (arith, a.1, b.1), omega (arith, a.2, b.2))
 
 -- ── Over the same states ──
 module _ (G : Ground) (xs : List State) where
@@ -75,6 +85,15 @@ module _ (G : Ground) (F : Founded G) where
         (λ ys y j takes t. let a = notice_point G ys c k x t in j.notices_stay y takes c k a.0 a.1 ∙ t)
         xs cs law small
 
+    tally_lasts : (cs : List Call) (r : ℕ) (t : Tally) → TallyIs G xs r t → (u : Tally) → TallyIs G (accepted G xs cs) r u → NoFewer t u
+    tally_lasts cs r t e =
+        stays (λ ys. (u : Tally) → TallyIs G ys r u → NoFewer t u)
+        (λ ys x j takes less u f.
+        let before : Tally = tallied (G.labelled ys) (get_or G.rules r no_rule) (length ys) (length ys) in
+        let now : TallyIs G ys r before = tally_tells G ys r (tally_told G xs r t e).0 in
+        no_fewer t before u (less before now) (j.tallies_grow x takes r before u now f))
+        xs cs law small (λ u f. same_tally t u (sym (tally_told G xs r t e).1 ∙ (tally_told G xs r u f).1))
+
     pub lasts : Lasts G xs
     lasts = record {
       labels = λ cs f i c d v t known le high. label_within G (accepted G xs cs) f i c d v (old_label cs f i c v t) known le high;
@@ -82,6 +101,7 @@ module _ (G : Ground) (F : Founded G) where
       old_labels = old_label;
       old_standings = old_standing;
       old_notices = old_notice;
+      tallies = λ cs r t u e f. tally_lasts cs r t e u f;
     }
 
 -- ── Among the answers to a list of calls on a new monitor ──
@@ -152,8 +172,15 @@ module _ (G : Ground) (F : Founded G) (calls : List Call) (answers : List (Resul
       answered k (NoticeOf c m) second
       ∙ subst (λ ys. NoticeIs G ys c m x) (sym (at_later j k le)) ((at_lasts j).old_notices (between j k calls) c m x was)
 
+  own_tallies : (j k r : ℕ) (t u : Tally) → j ≤ k → CallIs calls j (TallyOf r) → CallIs calls k (TallyOf r) →
+      AnswerIs answers j (Counts t) → AnswerIs answers k (Counts u) → NoFewer t u
+  own_tallies j k r t u le first second e f =
+      let was : TallyIs G (at j) r t = sym (answered j (TallyOf r) first) ∙ e in
+      let is : TallyIs G (at k) r u = sym (answered k (TallyOf r) second) ∙ f in
+      (at_lasts j).tallies (between j k calls) r t u was (subst (λ ys. TallyIs G ys r u) (at_later j k le) is)
+
   pub own_never_back : NeverTakenBack calls answers
-  own_never_back = record { standings = own_standings; labels = own_labels; notices = own_notices }
+  own_never_back = record { standings = own_standings; labels = own_labels; notices = own_notices; tallies = own_tallies }
 
 -- over a foreign record nothing is answered
 module _ (calls : List Call) (answers : List (Result Answer Refusal)) (all : (k : ℕ) → k < length calls → get_or answers k foreign ≡ foreign) where
@@ -165,6 +192,7 @@ module _ (calls : List Call) (answers : List (Result Answer Refusal)) (all : (k 
     standings = λ j k r i c d s le first second later known e. absurd (nothing j (StandingAt r i c) (Stands s) first e);
     labels = λ j k f i c d v le first second later known e. absurd (nothing j (LabelAt f i c) (Reads v) first e);
     notices = λ j k c m x le first second e. absurd (nothing j (NoticeOf c m) (Tells x) first e);
+    tallies = λ j k r t u le first second e f. absurd (nothing j (TallyOf r) (Counts t) first e);
   }
 
 pub never_back : (G : Ground) → Founded G → (start : List State) (calls : List Call) (answers : List (Result Answer Refusal)) (ends : List State) →

@@ -142,6 +142,9 @@ tally_told G xs r t e =
     let p = outcome_ok (refusal_of G xs (TallyOf r)) (answer G xs (TallyOf r)) (Counts t) (sym e) in
     (leb-false (length G.rules) r (no_reason (leb (length G.rules) r) refusal.NoSuchName None p.0).0, counts_same _ t (sym p.1))
 
+pub tally_tells : (G : Ground) (xs : List State) (r : ℕ) → r < length G.rules → TallyIs G xs r (tallied (G.labelled xs) (get_or G.rules r no_rule) (length xs) (length xs))
+tally_tells G xs r known = ap (λ why. outcome why (answer G xs (TallyOf r))) (without_reason (leb (length G.rules) r) refusal.NoSuchName None (lt-leb (length G.rules) r known) refl)
+
 -- ── Notices ──
 
 pub notice_told : (G : Ground) (xs : List State) (c k : ℕ) → 1 ≤ c → c ≤ length xs → told G xs (NoticeOf c k) ≡ Ok (Tells (slice_get (notices (G.labelled xs) G.rules c) k))

@@ -8,16 +8,16 @@ ghost use Rattle.answers.specs.Lasting.{Lasts};
 ghost use Rattle.answers.specs.Refused.{QueriesRefused};
 
 // Answers over lawful states, from labels that obey their laws, obey the law of a monitor.
-pub(crate) fn answers_are_judged()
+pub fn answers_are_judged()
     ensures { (G : Ground) → Founded G → (xs : List State) → LawfulRecord xs → length xs ≤ 256 → Judged G xs }
 {}
 
 // What was answered stays so, whatever calls follow.
-pub(crate) fn answers_last()
+pub fn answers_last()
     ensures { (G : Ground) → Founded G → (xs : List State) → LawfulRecord xs → length xs ≤ 256 → Lasts G xs }
 {}
 
 // A query is refused with the first number that fits, and with none if none fits.
-pub(crate) fn queries_are_refused()
+pub fn queries_are_refused()
     ensures { (G : Ground) (xs : List State) → QueriesRefused G xs }
 {}

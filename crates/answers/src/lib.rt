@@ -1,6 +1,6 @@
 // What a monitor is asked and what it answers, and the law that its answers obey.
 #![tactic(auto)]
 
-mod laws;
+pub mod laws;
 pub mod types;
 mod written;

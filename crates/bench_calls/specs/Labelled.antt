@@ -1,5 +1,5 @@
 -- Whole labelling of the trace lines that follow a rules text.
-use Rattle.std.specs.Prelude.{◌≡◌, ℕ, ◌*◌, ◌<◌, ◌≤◌, List, length, drop, Ok, Err, Result, slice_index_or}
+use Rattle.std.specs.Prelude.{◌≡◌, ℕ, ◌*◌, ◌<◌, ◌≤◌, List, length, drop, Ok, Err, Result, MatchResult, slice_index_or}
 use Rattle.logic.specs.declared.types.Formula.{Formula}
 use Rattle.logic.specs.declared.types.Rule.{Rule}
 use Rattle.logic.specs.declared.types.State.{State}
@@ -11,7 +11,9 @@ use Rattle.refusals.specs.declared.Refusal.{Refusal}
 use Rattle.refusals.specs.Numbers.{told}
 use Rattle.rulestexts.specs.Texts.{Whole, Refused}
 use Rattle.textrecord.specs.Listed.{states_of}
-use Rattle.labelling.specs.Whole.{LabelOf, place, Short, Declined}
+use Rattle.labelling.specs.Whole.{LabelOf, place, Short, Declined, Labelled, Answered}
+use Rattle.table.specs.declared.finished.Table.{Table}
+use Rattle.table.specs.Tables.{formulas_of}
 use Rattle.bench_calls.specs.declared.outcome.Outcome.{Outcome}
 use Rattle.bench_calls.specs.declared.labelled.Counts.{Counts}
 use Rattle.bench_calls.specs.Outcomes.{stopped}
@@ -43,6 +45,20 @@ EachLabel {K} reads reach formulas xs cells = (f i : ℕ) → f < length formula
 -- how many states were labelled, and how many cells their labels take
 abbrev pub Counted : List Formula → List State → Counts → Type 0
 Counted formulas xs w = (w.states ≡ length xs) × (w.cells ≡ length formulas * length xs)
+
+-- what whole labelling answers and leaves of a table's formulas at these states
+abbrev pub TableLabelled : {K : Type 0} → (K → Reading) → (reach : ℕ) → Table → List State → (old oldWork : List K) → Result ℕ Refusal
+    → (new newWork : List K) → Type 0
+TableLabelled reads reach table xs old oldWork r new newWork = Answered reads reach (formulas_of table.draft) xs old oldWork r new newWork
+
+-- the states of a text of trace lines are labelled and counted, or whole labelling declines them
+abbrev pub LinesLabelled : {K : Type 0} → (K → Reading) → (reach : ℕ) → Table → (text : List ℕ) → (old oldWork : List K)
+    → Result Counts Refusal → (new newWork : List K) → Type 0
+LinesLabelled reads reach table text old oldWork r new newWork =
+    MatchResult r
+    (λ w. Labelled reads reach (formulas_of table.draft) (states_of text) old oldWork new newWork
+    × Counted (formulas_of table.draft) (states_of text) w)
+    (λ why. Declined (formulas_of table.draft) (states_of text) reach (length old) (length oldWork) why)
 
 -- the text is labelled, or not
 abbrev pub TextLabelled : {K : Type 0} → (K → Reading) → (reach room : ℕ) → (text : List ℕ) → Result Counts Outcome → List K → Type 0

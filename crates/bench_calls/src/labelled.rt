@@ -1,9 +1,6 @@
 // Whole labelling of a text, in any kind of label.
-ghost use Rattle.std.specs.Prelude.{◌≡◌, ◌*◌, ◌≤◌, length, MatchResult};
-ghost use Rattle.table.specs.Tables.{formulas_of};
-ghost use Rattle.textrecord.specs.Listed.{states_of};
-ghost use Rattle.labelling.specs.Whole.{Answered, Declined, Labelled};
-ghost use Rattle.bench_calls.specs.Labelled.{Counted, TextLabelled};
+ghost use Rattle.std.specs.Prelude.{◌≡◌, ◌*◌, ◌≤◌, length};
+ghost use Rattle.bench_calls.specs.Labelled.{TableLabelled, LinesLabelled, TextLabelled};
 
 use crate::gathering::gather;
 use crate::outcome::Outcome;
@@ -31,7 +28,7 @@ fn label_again<K: LabelKind + Copy, R: Readable>(
     cells: &mut [K],
     work: &mut [K],
 ) -> Result<usize, Refusal>
-    ensures { Answered K.reads K.reach (formulas_of table.now.draft) (R.states log.now) cells.old work.old result cells.new work.new }
+    ensures { TableLabelled K.reads K.reach table.now (R.states log.now) cells.old work.old result cells.new work.new }
 {
     let states = label_whole(table, log, cells, work)?;
     for _ in 0..again {
@@ -49,8 +46,7 @@ fn label_states<K: LabelKind + Copy>(
     cells: &mut [K],
     work: &mut [K],
 ) -> Result<Counts, Refusal>
-    ensures { MatchResult result (λ w. Labelled K.reads K.reach (formulas_of table.now.draft) (states_of text.now) cells.old work.old cells.new work.new × Counted (formulas_of table.now.draft) (states_of text.now) w)
-        (λ why. Declined (formulas_of table.now.draft) (states_of text.now) K.reach (length cells.old) (length work.old) why) }
+    ensures { LinesLabelled K.reads K.reach table.now text.now cells.old work.old result cells.new work.new }
 {
     let mut rows = [BLANK; MOST_STATES];
     let mut log = TableRecord::new(&mut rows);

@@ -32,7 +32,7 @@ abbrev pub TalliesTold : Type 0
 TalliesTold = (N : ℕ) (labels : Labels) (rules : List Rule) → InOrder N labels → (n k : ℕ) → n ≤ N → k < length rules →
     Counts (tallied labels (slice_index_or rules k no_rule) n n) labels rules n k
 
--- nothing that was counted is counted no more
+-- raised, fulfilled and violated are no fewer
 abbrev pub NoFewer : (old new : Tally) → Type 0
 NoFewer old new = (old.raised ≤ new.raised) × (old.fulfilled ≤ new.fulfilled) × (old.violated ≤ new.violated)
 

@@ -1,7 +1,7 @@
 // Expectations: what becomes of a rule's expectations, from the labels of its condition and its content.
 #![tactic(auto)]
 
-mod laws;
+pub mod laws;
 pub mod reading;
 pub mod types;
 pub mod words;

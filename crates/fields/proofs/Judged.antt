@@ -1,10 +1,11 @@
-use Rattle.std.proofs.Common.{◌≡◌, ℕ, ◌+◌, ◌≤◌, List, ◌∷◌, length, drop, sym, ap, ◌∙◌, subst, MatchResult, Option, Some, None, Result, Ok, Err, arith, length-append, length-drop}
+use Rattle.std.proofs.Common.{◌≡◌, ℕ, ◌+◌, ◌≤◌, List, ◌∷◌, length, drop, sym, ap, ◌∙◌, subst, Option, Some, None, Result, Ok, Err, arith, length-append, length-drop}
 use Rattle.faults.specs.declared.line.LineFault.{LineFault}
 use Rattle.faults.specs.declared.line.LineFault.TheVariants as fault
 use Rattle.fields.specs.Lines.{FirstLine}
 use Rattle.fields.specs.declared.lines.Taken.{Taken}
 use Rattle.fields.specs.Reads.{Fails, ReadsLine}
 use Rattle.fields.specs.Kinds.{Kind, Shows, Takes, Refuses, TakesLine, ShowsNone}
+use Rattle.fields.specs.Readers.{ReadsValue, ReadsMeaning}
 use Rattle.fields.proofs.Ends.{one_line}
 
 -- a kind whose lines show one value at most
@@ -73,23 +74,23 @@ module _ (K : Kind) {N T : Type 0} (Form : List ℕ → Option N → Type 0) (Ra
       (p, (o.0, drop (length j.line + 1) text, record { line = line_as K text j.line (drop (length j.line + 1) text) o.0 j.first o.1; formed = o.2 }, o.3))
 
   -- the answer is what a value of the kind means
-  pub read_meant : (Means : K.Value → T → Type 0) (text : List ℕ) (place : ℕ) (r : Result (Taken T) LineFault) → ReadsLine Form Range text place r
-      → ((line : List ℕ) (n : N) (x : T) → Form line (Some n) → Range n (Some x) → (v : K.Value) × TakesLine K line v × Means v x)
+  pub read_meant : (meaning : K.Value → T) (text : List ℕ) (place : ℕ) (r : Result (Taken T) LineFault) → ReadsLine Form Range text place r
+      → ((line : List ℕ) (n : N) (x : T) → Form line (Some n) → Range n (Some x) → (v : K.Value) × TakesLine K line v × (x ≡ meaning v))
       → ((line : List ℕ) → Form line None → ShowsNone K line)
       → ((line : List ℕ) (n : N) → Form line (Some n) → Range n None → (v : K.Value) × (line ≡ K.written v) × K.Formed v × (K.Ranged v → ⊥))
-      → MatchResult r (λ a. (v : K.Value) × Takes K text v a.used × Means v a.value) (λ e. Refuses K text place e)
-  read_meant Means text place (Ok a) h some none out =
+      → ReadsMeaning K meaning text place r
+  read_meant meaning text place (Ok a) h some none out =
       let j = h.answer.0 in
       let t = some j.line j.says.shown a.value j.says.formed j.says.ranged in
       (t.0, taken K text j.line t.0 a.used j.first t.1 h.answer.1, t.2)
-  read_meant Means text place (Err e) h some none out = refused_as text place e none out h.answer
+  read_meant meaning text place (Err e) h some none out = refused_as text place e none out h.answer
 
   -- the same where the value is a function of the answer
   pub read_as : (V : T → K.Value) (text : List ℕ) (place : ℕ) (r : Result (Taken T) LineFault) → ReadsLine Form Range text place r
       → ((line : List ℕ) (n : N) (x : T) → Form line (Some n) → Range n (Some x) → TakesLine K line (V x))
       → ((line : List ℕ) → Form line None → ShowsNone K line)
       → ((line : List ℕ) (n : N) → Form line (Some n) → Range n None → (v : K.Value) × (line ≡ K.written v) × K.Formed v × (K.Ranged v → ⊥))
-      → MatchResult r (λ a. Takes K text (V a.value) a.used) (λ e. Refuses K text place e)
+      → ReadsValue K V text place r
   read_as V text place (Ok a) h some none out =
       let j = h.answer.0 in
       taken K text j.line (V a.value) a.used j.first (some j.line j.says.shown a.value j.says.formed j.says.ranged) h.answer.1

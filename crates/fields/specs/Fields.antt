@@ -1,7 +1,8 @@
 -- What stands in a line, place by place: keys, and under each a text without spaces.
-use Rattle.std.specs.Prelude.{◌≡◌, ℕ, ◌+◌, ◌≤◌, List, [], ◌∷◌, ◌++◌, length, drop, decimal, ◌≢◌, slice_index}
+use Rattle.std.specs.Prelude.{◌≡◌, ℕ, ◌+◌, ◌≤◌, List, [], ◌∷◌, ◌++◌, length, drop, decimal, ◌≢◌, slice_index, Option, MatchOption}
 use Rattle.words.specs.Words.{word}
 use Rattle.words.specs.declared.Operator.{Operator}
+use Rattle.keys.specs.Found.{NoKey}
 use Rattle.fields.specs.Lines.{Small, Free}
 use Rattle.fields.specs.declared.parts.Field.{Field}
 use Rattle.fields.specs.declared.parts.Field.TheVariants.{Word, Number, End}
@@ -34,10 +35,6 @@ Stands line at (Word t place) = Part line at t.now place × (Digit (slice_index 
 Stands line at (Number t place) = Part line at t.now place × Digit (slice_index t.now 0)
 Stands line at End = Stop (drop at line)
 
--- no key comes next
-abbrev pub NoKey : (before key : List ℕ) → Type 0
-NoKey before key = (u : List ℕ) → before ≢ key ++ u
-
 -- a key comes next, and a field of the line stands after it
 pub record Under (line before key : List ℕ) (f : Field) : Type 0 where
   pub at : ℕ
@@ -63,3 +60,17 @@ NoNumber before key = (n : ℕ) (u : List ℕ) → Small n → Stop u → before
 -- no key with an operator's word comes next
 abbrev pub NoOperator : (before key : List ℕ) → Type 0
 NoOperator before key = (o : Operator) (u : List ℕ) → Stop u → before ≢ key ++ (word o ++ u)
+
+-- ── what a reader of fields answers, where `before` is not read yet, and `after` is not read then ──
+
+-- the field of a line that stands under a key, if that key comes next
+abbrev pub FindsUnder : (line before key : List ℕ) → Option Field → Type 0
+FindsUnder line before key o = MatchOption o (NoKey before key) (λ f. Under line before key f)
+
+-- the number under a key, if that key with a number comes next
+abbrev pub ReadsNumber : (before key : List ℕ) → Option ℕ → (after : List ℕ) → Type 0
+ReadsNumber before key o after = MatchOption o (NoNumber before key) (λ n. TookNumber before key n after)
+
+-- the operator whose word stands under a key, if that key with an operator's word comes next
+abbrev pub ReadsOperator : (before key : List ℕ) → Option Operator → (after : List ℕ) → Type 0
+ReadsOperator before key o after = MatchOption o (NoOperator before key) (λ operator. Took before key (word operator) after)

@@ -4,3 +4,4 @@ pub mod Kinds
 pub mod Runs
 pub mod Rest
 pub mod Reads
+pub mod Readers

@@ -1,7 +1,6 @@
-ghost use Rattle.std.specs.Prelude.{◌≡◌, ◌+◌, length, drop, MatchResult};
-ghost use Rattle.std.specs.Fn.{FnOnceReturns, FnOnceReturnsAt};
-ghost use Rattle.fields.specs.Lines.{FirstLine, Torn};
-ghost use Rattle.fields.specs.Reads.{ReadsLine};
+ghost use Rattle.std.specs.Prelude.{◌≡◌, ◌+◌, length};
+ghost use Rattle.std.specs.Fn.{FnOnceReturnsAt};
+ghost use Rattle.fields.specs.Reads.{FindsLine, Gives, ReadsLine};
 
 use crate::places::place_of;
 use faults::line::LineFault;
@@ -13,7 +12,7 @@ const LINE_LIMIT: usize = 80;
 // The first line of a text, without the byte that ends it; `place` is the line's, for a refusal. It stays a parameter beside
 // the text, here and in the readers: only a refusal names it, and each caller counts it in its own way.
 pub fn first_line(text: &[u8], place: usize) -> Result<&[u8], LineFault>
-    ensures { MatchResult result (λ line. FirstLine text.now line.now (drop (length line.now + 1) text.now)) (λ e. (e ≡ LineFault.Torn place) × Torn text.now) }
+    ensures { FindsLine text.now place result }
 {
     let front = &text[..text.len().min(LINE_LIMIT + 1)];
     let n = place_of(front, LINE_END).ok_or(LineFault::Torn(place))?;
@@ -44,7 +43,7 @@ pub fn read_line<N: Drop, T: Drop, F: FnOnce(&[u8]) -> Option<N>, G: FnOnce(N) -
 ) -> Result<Taken<T>, LineFault>
     requires form { F.IsAlwaysCallable form }
     requires range { G.IsAlwaysCallable range }
-    ensures { ReadsLine (FnOnceReturnsAt F.FnOnce form) (λ n. FnOnceReturns G.FnOnce range (n, tt)) text.now place result }
+    ensures { ReadsLine (FnOnceReturnsAt F.FnOnce form) (Gives G.FnOnce range) text.now place result }
 {
     let line = first_line(text, place)?;
     let shown = form(line).ok_or(LineFault::Form(place))?;

@@ -1,7 +1,5 @@
 ghost use Rattle.std.specs.Prelude.{◌≡◌, ◌↔◌, ◌≤◌, [], length, IsTrue, IfNone};
-ghost use Rattle.std.specs.Option.{MatchOption};
-ghost use Rattle.words.specs.Words.{word as word_of};
-ghost use Rattle.fields.specs.Fields.{NoKey, Under, NoNumber, TookNumber, NoOperator, Took};
+ghost use Rattle.fields.specs.Fields.{FindsUnder, ReadsNumber, ReadsOperator};
 
 use crate::numbers::number;
 use crate::parts::{Field, field_at};
@@ -35,7 +33,7 @@ impl<'a> Fields<'a> {
 
     // What stands under a key that comes next.
     fn under<K: LineKey>(&self, key: K) -> Option<Field<'a>>
-        ensures { MatchOption result (NoKey (rest_of self.now) (K.written key)) (λ f. Under self.now.line.now (rest_of self.now) (K.written key) f) }
+        ensures { FindsUnder self.now.line.now (rest_of self.now) (K.written key) result }
     {
         let rest = key.after(&self.line[self.at..])?;
         Some(field_at(self.line, self.line.len() - rest.len()))
@@ -43,7 +41,7 @@ impl<'a> Fields<'a> {
 
     // Reads the number under a key that comes next.
     pub fn number<K: LineKey>(&mut self, key: K) -> Option<u64>
-        ensures read { MatchOption result (NoNumber (rest_of self.old) (K.written key)) (λ n. TookNumber (rest_of self.old) (K.written key) n (rest_of self.new)) }
+        ensures read { ReadsNumber (rest_of self.old) (K.written key) result (rest_of self.new) }
         ensures unread { IfNone result (rest_of self.new ≡ rest_of self.old) }
     {
         let Field::Number(text, place) = self.under(key)? else {
@@ -57,7 +55,7 @@ impl<'a> Fields<'a> {
     // Reads the operator whose word stands under a key that comes next. Beside `number`, and not one with it: a shared function
     // would take the field's case, the reader and the promise of each from its caller, which is more than each has.
     pub fn operator<K: LineKey>(&mut self, key: K) -> Option<Operator>
-        ensures read { MatchOption result (NoOperator (rest_of self.old) (K.written key)) (λ o. Took (rest_of self.old) (K.written key) (word_of o) (rest_of self.new)) }
+        ensures read { ReadsOperator (rest_of self.old) (K.written key) result (rest_of self.new) }
         ensures unread { IfNone result (rest_of self.new ≡ rest_of self.old) }
     {
         let Field::Word(text, place) = self.under(key)? else {

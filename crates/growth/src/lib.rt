@@ -24,31 +24,31 @@ pub fn label_told(x: Dated) -> Label
 // Each function below is there for its contract, which says a law of the labels.
 
 // Every label has the right verdict at every truncation point.
-pub(crate) fn labels_mean()
+pub fn labels_mean()
     ensures { LabelsMean }
 {}
 
 // Every decided label is right on every lawful endless trace that begins with the record.
-pub(crate) fn labels_are_sound()
+pub fn labels_are_sound()
     ensures { LabelsAreSound }
 {}
 
 // With one more state a decided label stays, and any other is unknown or decided from the new state on.
-pub(crate) fn labels_grow()
+pub fn labels_grow()
     ensures { LabelsGrow }
 {}
 
 // No label is dated before its state or after the last one.
-pub(crate) fn labels_in_order()
+pub fn labels_in_order()
     ensures { LabelsInOrder }
 {}
 
 // A dated label that means a formula is the formula's label.
-pub(crate) fn cells_are_labels()
+pub fn cells_are_labels()
     ensures { CellsAreLabels }
 {}
 
 // Labels of every kind agree.
-pub(crate) fn kinds_agree<K: LabelKind>()
+pub fn kinds_agree<K: LabelKind>()
     ensures { KindsAgree K.reads K.reach }
 {}

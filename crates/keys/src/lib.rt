@@ -1,8 +1,9 @@
 // The keys of the texts' lines, recognised byte by byte.
 #![tactic(auto)]
 
-ghost use Rattle.std.specs.Prelude.{◌≡◌, ℕ, List, ◌++◌, MatchOption, ◌≢◌};
+ghost use Rattle.std.specs.Prelude.{ℕ, List};
 ghost use Rattle.keys.specs.Keys.{count_text, trace_text, formula_text, rule_text};
+ghost use Rattle.keys.specs.Found.{AfterKey};
 
 use words::letters::{A, B, C, E, F, G, H, I, K, L, M, N, O, P, R, S, T, U, W, X};
 
@@ -18,7 +19,7 @@ pub trait LineKey: Sized {
 
     // What follows the key in a text that begins with it.
     fn after(self, text: &[u8]) -> Option<&[u8]>
-        ensures { MatchOption result ((rest : List ℕ) → text.now ≢ written self ++ rest) (λ rest. text.now ≡ written self ++ rest.now) };
+        ensures { AfterKey text.now (written self) result };
 }
 
 // The keys of the lines that count formulas and rules.

@@ -8,12 +8,13 @@ use Rattle.labels.specs.Readings.{Reading, Same, opened}
 use Rattle.logic.specs.declared.types.Formula.{Formula}
 use Rattle.logic.specs.declared.types.State.{State}
 use Rattle.logic.specs.Tables.{loose}
+use Rattle.labelling.specs.Rows.{Cleared}
 use Rattle.labelling.specs.Whole.{LabelOf, Labelled}
 use Rattle.kinds_agree.specs.Sames.{SameTo}
 
 -- cells after those of the labels are unknown where they were so before
 module _ {K : Type 0} (reads : K → Reading) (reach : ℕ) (table : List Formula) (xs : List State) (old work new work_after : List K)
-    (done : Labelled reads reach table xs old work new work_after) (blank : (k : ℕ) (d : K) → k < length old → Same reach (reads (get_or old k d)) opened) where
+    (done : Labelled reads reach table xs old work new work_after) (blank : Cleared reads reach old (length old)) where
   pub blank_later : (k : ℕ) (d : K) → length table * length xs ≤ k → k < length old → Same reach (reads (get_or new k d)) opened
   blank_later k d past less e c lo hi =
       let total = length table * length xs in
@@ -33,8 +34,8 @@ module _ {A B : Type 0} (readsA : A → Reading) (readsB : B → Reading) (reach
 
   module _ (oldA workA newA afterA : List A) (oldB workB newB afterB : List B)
       (inA : Labelled readsA reachA table xs oldA workA newA afterA) (inB : Labelled readsB reachB table xs oldB workB newB afterB)
-      (blankA : (k : ℕ) (d : A) → k < length oldA → Same reachA (readsA (get_or oldA k d)) opened)
-      (blankB : (k : ℕ) (d : B) → k < length oldB → Same reachB (readsB (get_or oldB k d)) opened) where
+      (blankA : Cleared readsA reachA oldA (length oldA))
+      (blankB : Cleared readsB reachB oldB (length oldB)) where
     in_table : (k : ℕ) (x : A) (y : B) → k < length table * length xs → Same 64 (readsA (get_or newA k x)) (readsB (get_or newB k y))
     in_table k x y less =
         let n = length xs in

@@ -1,9 +1,10 @@
 -- Every numbered log is lawful. Assumes nothing.
-use Rattle.std.proofs.Common.{◌≡◌, ℕ, zero, suc, ◌*◌, ◌/◌, ◌%◌, ◌<◌, ◌≤◌, cond, ◌==◌, List, length, refl, sym, ◌∙◌, ⊎_elim, arith}
+use Rattle.std.proofs.Common.{◌≡◌, ℕ, zero, suc, ◌*◌, ◌/◌, ◌%◌, ◌<◌, ◌≤◌, cond, ◌==◌, length, refl, sym, ◌∙◌, ⊎_elim, arith}
 use Rattle.std.proofs.lemmas.Bool.Decides.{nat_tests}
-use Rattle.logic.specs.declared.types.Formula.{Formula}
 use Rattle.logic.specs.States.{no_reference, state_at}
 use Rattle.logic.specs.Lawful.{NominalTaken, Unfit, ReferenceUnfit}
+use Rattle.table.specs.Tables.{formulas_of}
+use Rattle.table.specs.declared.finished.Table.{Table}
 use Rattle.kinds_agree.specs.Logs.{referring, numbered}
 use Rattle.kinds_agree.specs.Sames.{Labellable}
 
@@ -41,10 +42,10 @@ references_fit k (suc (suc zero)) one most unfit = ⊎_elim (none_fits 2) (none_
 references_fit k (suc (suc (suc zero))) one most unfit = ⊎_elim (referring_fits (k / 256 % 4)) (none_fits 3) unfit
 references_fit k (suc (suc (suc (suc i)))) one most unfit = absurd (omega arith)
 
-pub numbered_labellable : (table : List Formula) (k : ℕ) → length table ≤ 32 → Labellable 64 96 table (numbered k)
-numbered_labellable table k few =
+pub numbered_labellable : (t : Table) (k : ℕ) → length (formulas_of t.draft) ≤ 32 → Labellable 64 96 96 t (numbered k)
+numbered_labellable t k few =
     ((omega arith, omega arith), (omega arith, omega arith), λ i one most. (not_taken k i one most, references_fit k i one most))
 
 -- three states at more than 32 formulas take more than 96 cells
-pub numbered_long : (table : List Formula) (k : ℕ) → Labellable 64 96 table (numbered k) → 32 < length table → ⊥
-numbered_long table k able many = let room : length table * 3 ≤ 96 = able.1.0 in omega (arith, room, many)
+pub numbered_long : (t : Table) (k : ℕ) → Labellable 64 96 96 t (numbered k) → 32 < length (formulas_of t.draft) → ⊥
+numbered_long t k able many = let room : length (formulas_of t.draft) * 3 ≤ 96 = able.1.0 in omega (arith, room, many)

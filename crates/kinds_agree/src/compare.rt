@@ -1,9 +1,8 @@
 // Whether the two kinds of label tell the same of a log.
-ghost use Rattle.std.specs.Prelude.{◌≡◌, ◌<◌, ◌≤◌, Bool, Decides, true, length};
+ghost use Rattle.std.specs.Prelude.{◌≡◌, ◌≤◌, Decides, true, length};
 ghost use Rattle.labels.specs.Readings.{Same};
-ghost use Rattle.table.specs.Tables.{formulas_of};
-ghost use Rattle.labelling.specs.Whole.{Labelled};
-ghost use Rattle.kinds_agree.specs.Sames.{SameTo, Labellable, KindsAgreed};
+ghost use Rattle.labelling.specs.Whole.{Leaves};
+ghost use Rattle.kinds_agree.specs.Sames.{BothTell, SameAt, AllSame, Labellable, KindsAgreed};
 
 use labelling::whole::label_whole;
 use labels::LabelKind;
@@ -21,8 +20,8 @@ const CELLS: usize = 96;
 
 // Whether two labels have the same readings at a point.
 fn same_at<A: LabelKind + Copy, B: LabelKind + Copy>(a: A, b: B, point: usize) -> bool
-    ensures told { 0 < point → point ≤ A.LabelKind.reach → point ≤ B.LabelKind.reach → result ≡ true → (e : Bool) → A.LabelKind.reads a e point ≡ B.LabelKind.reads b e point }
-    ensures found { 0 < point → point ≤ A.LabelKind.reach → point ≤ B.LabelKind.reach → ((e : Bool) → A.LabelKind.reads a e point ≡ B.LabelKind.reads b e point) → result ≡ true }
+    ensures told { BothTell A.reach B.reach point → result ≡ true → SameAt A.reads B.reads point a b }
+    ensures found { BothTell A.reach B.reach point → SameAt A.reads B.reads point a b → result ≡ true }
 {
     let weak = a.read(true, point) == b.read(true, point);
     let strong = a.read(false, point) == b.read(false, point);
@@ -31,8 +30,8 @@ fn same_at<A: LabelKind + Copy, B: LabelKind + Copy>(a: A, b: B, point: usize) -
 
 // Whether two labels have the same readings at every point up to 64, where both kinds tell of these points.
 fn same_readings<A: LabelKind + Copy, B: LabelKind + Copy>(a: A, b: B) -> bool
-    ensures told { 64 ≤ A.LabelKind.reach → 64 ≤ B.LabelKind.reach → result ≡ true → Same 64 (A.LabelKind.reads a) (B.LabelKind.reads b) }
-    ensures found { 64 ≤ A.LabelKind.reach → 64 ≤ B.LabelKind.reach → Same 64 (A.LabelKind.reads a) (B.LabelKind.reads b) → result ≡ true }
+    ensures told { 64 ≤ A.reach → 64 ≤ B.reach → result ≡ true → Same 64 (A.reads a) (B.reads b) }
+    ensures found { 64 ≤ A.reach → 64 ≤ B.reach → Same 64 (A.reads a) (B.reads b) → result ≡ true }
 {
     (1..=POINTS).all(|point| same_at(a, b, point))
 }
@@ -40,8 +39,8 @@ fn same_readings<A: LabelKind + Copy, B: LabelKind + Copy>(a: A, b: B) -> bool
 // Whether the labels of two lists have the same readings, one by one.
 fn same_labels<A: LabelKind + Copy, B: LabelKind + Copy>(first: &[A], second: &[B]) -> bool
     ensures lengths { result ≡ true → length first.now ≡ length second.now }
-    ensures told { 64 ≤ A.LabelKind.reach → 64 ≤ B.LabelKind.reach → result ≡ true → SameTo A.LabelKind.reads B.LabelKind.reads first.now second.now (length first.now) }
-    ensures found { 64 ≤ A.LabelKind.reach → 64 ≤ B.LabelKind.reach → length first.now ≡ length second.now → SameTo A.LabelKind.reads B.LabelKind.reads first.now second.now (length first.now) → result ≡ true }
+    ensures told { 64 ≤ A.reach → 64 ≤ B.reach → result ≡ true → AllSame A.reads B.reads first.now second.now }
+    ensures found { 64 ≤ A.reach → 64 ≤ B.reach → AllSame A.reads B.reads first.now second.now → result ≡ true }
 {
     first.len() == second.len() && first.iter().zip(second).all(|(a, b)| same_readings(*a, *b))
 }
@@ -53,8 +52,8 @@ fn is_labelled<K: LabelKind + Copy>(
     labels: &mut [K],
     work: &mut [K],
 ) -> bool
-    ensures told { result ≡ true → Labelled K.reads K.reach (formulas_of table.now.draft) log.now labels.old work.old labels.new work.new }
-    ensures found { length work.old ≡ length labels.old → Labellable K.reach (length labels.old) (formulas_of table.now.draft) log.now → result ≡ true }
+    ensures told { result ≡ true → Leaves K.reads K.reach table.now log.now labels.old work.old labels.new work.new }
+    ensures found { Labellable K.reach (length labels.old) (length work.old) table.now log.now → result ≡ true }
 {
     label_whole(table, &Rows::new(log), labels, work).is_ok()
 }
@@ -62,8 +61,8 @@ fn is_labelled<K: LabelKind + Copy>(
 // Labels the log in both kinds. Cells without a label are unknown in both. Wherever there are labels they tell the same, so the
 // answer is whether the log can be labelled. Arrays, and no `Vec`: an allocation could fail, and this answers without failure.
 pub fn kinds_agree(table: &Table, log: &[State]) -> bool
-    ensures told { result ≡ true → KindsAgreed (formulas_of table.now.draft) log.now }
-    ensures exact { Decides result (Labellable 64 96 (formulas_of table.now.draft) log.now) }
+    ensures told { result ≡ true → KindsAgreed table.now log.now }
+    ensures exact { Decides result (Labellable 64 96 96 table.now log.now) }
 {
     let mut dated = [Dated::unknown(); CELLS];
     let mut dated_work = [Dated::unknown(); CELLS];

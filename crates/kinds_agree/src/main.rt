@@ -23,7 +23,7 @@ const LOGS: usize = 1024;
 // How many of the logs have labels in both kinds that tell the same: all of them, or none where a log takes more than 96 cells,
 // as it does with more than 32 formulas. A loop, since `count` after a `filter` tells too little of the logs that pass.
 fn count_agreeing(table: &Table) -> usize
-    ensures each { result ≡ 1024 → (k : ℕ) → k < 1024 → KindsAgreed (formulas_of table.now.draft) (numbered k) }
+    ensures each { result ≡ 1024 → (k : ℕ) → k < 1024 → KindsAgreed table.now (numbered k) }
     ensures all { length (formulas_of table.now.draft) ≤ 32 → result ≡ 1024 }
     ensures none { 32 < length (formulas_of table.now.draft) → result ≡ 0 }
 {

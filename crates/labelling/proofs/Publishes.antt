@@ -11,7 +11,7 @@ use Rattle.logic.specs.Logic.{Reads}
 use Rattle.logic.specs.Tables.{tree, Flagged}
 use Rattle.labelling.specs.Rows.{cell, row, Filled}
 use Rattle.labelling.specs.Bound.{ClosedTold, Published}
-use Rattle.labelling.specs.Whole.{LabelOf, place}
+use Rattle.labelling.specs.Whole.{LabelOf, HasLabels, place}
 use Rattle.labelling.proofs.Places.{length_row}
 use Rattle.labelling.proofs.Cells.{cell_at}
 use Rattle.labelling.proofs.Nodes.{row_below}
@@ -45,8 +45,9 @@ module _ {K : Type 0} (reads : K → Reading) (reach n : ℕ) where
   -- the labels that are published are those of the formulas
   pub label_of : (xs : List State) (table : List Formula) (flags : List Bool) (work cells : List K) → n ≡ length xs → Flagged table flags (length table)
       → ClosedTold reads reach n (state_at xs) table work (length table) → Published reads reach n flags work cells (length table) → length table * n ≤ length cells
-      → (f i : ℕ) → f < length table → 1 ≤ i → i ≤ n → (d : K) → LabelOf reads reach table xs f i (get_or cells (place n f i) d)
-  label_of xs table flags work cells is flagged told out room f i less one le d =
+      → HasLabels reads reach table xs cells
+  label_of xs table flags work cells is flagged told out room =
+      subst (λ k. (f i : ℕ) → f < length table → 1 ≤ i → i ≤ k → (d : K) → LabelOf reads reach table xs f i (get_or cells (place k f i) d)) is (λ f i less one le d.
       let fits : f * n + n ≤ length cells = omega (arith, row_below f (length table) n less) in
       let x = get_or cells (place n f i) d in
       let reading = row_cell reads n f cells (i - 1) d (omega arith) fits in (
@@ -54,4 +55,4 @@ module _ {K : Type 0} (reads : K → Reading) (reach n : ℕ) where
             subst (λ k. Decides (reads x r c) (Reads r (state_at xs) (min c k) v i (tree table f))) is
             (Decides-at _ _ (reading r c ∙ (out f less).1 (flagged f less ∙ closed) (i - 1) r c (omega arith) lo hi) (told f v less closed r c i lo hi (omega arith)))),
         (λ so r c lo hi. reading r c ∙ (out f less).0 (flagged f less ∙ so) (i - 1) r c (omega arith) lo hi),
-      )
+      ))

@@ -3,3 +3,4 @@ pub mod Tells
 pub mod Bound
 pub mod Props
 pub mod Whole
+pub mod Jobs

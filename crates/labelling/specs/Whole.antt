@@ -9,7 +9,10 @@ use Rattle.logic.specs.Logic.{Tree, Reads}
 use Rattle.logic.specs.Tables.{tree, loose}
 use Rattle.refusals.specs.declared.Refusal.{Refusal}
 use Rattle.refusals.specs.declared.Refusal.TheVariants as refusal
+use Rattle.table.specs.Tables.{formulas_of}
+use Rattle.table.specs.declared.finished.Table.{Table}
 use Rattle.lawful.specs.Unlawful.{FirstUnlawful}
+use Rattle.labelling.specs.Rows.{Cleared}
 
 -- A label means a formula at state i of a record: at every truncation point up to the kind's length it gives the weak and the
 -- strong reading. Before point i that is unknown, and a point after the last state keeps all states, so it reads as the last.
@@ -25,6 +28,11 @@ LabelOf reads reach table xs f i x =
 -- formula f at state i of n has cell f × n + i − 1
 abbrev pub place : (n f i : ℕ) → ℕ
 place n f i = f * n + (i - 1)
+
+-- the cells have the label of every formula at every state
+abbrev pub HasLabels : {K : Type 0} → (K → Reading) → (reach : ℕ) → List Formula → List State → List K → Type 0
+HasLabels {K} reads reach table xs cells =
+    (f i : ℕ) → f < length table → 1 ≤ i → i ≤ length xs → (d : K) → LabelOf reads reach table xs f i (slice_index_or cells (place (length xs) f i) d)
 
 -- the states and the memory suffice
 abbrev pub Short : (n : ℕ) (reach : ℕ) → Type 0
@@ -50,9 +58,9 @@ pub record Labelled {K : Type 0} (reads : K → Reading) (reach : ℕ) (table : 
   pub short : Short (length xs) reach
   pub roomy : Roomy (length table * length xs) (length old) (length oldWork)
   pub lawful : LawfulRecord xs
-  pub labels : (f i : ℕ) → f < length table → 1 ≤ i → i ≤ length xs → (d : K) → LabelOf reads reach table xs f i (slice_index_or new (place (length xs) f i) d)
+  pub labels : HasLabels reads reach table xs new
   pub later : drop (length table * length xs) new ≡ drop (length table * length xs) old
-  pub cleared : (k : ℕ) → k < length table * length xs → (d : K) → Same reach (reads (slice_index_or newWork k d)) opened
+  pub cleared : Cleared reads reach newWork (length table * length xs)
   pub later_work : drop (length table * length xs) newWork ≡ drop (length table * length xs) oldWork
 
 -- whole labelling answers the number of states, or declines and leaves all memory as it was
@@ -60,3 +68,10 @@ abbrev pub Answered : {K : Type 0} → (K → Reading) → (reach : ℕ) → Lis
 Answered reads reach table xs old oldWork (Ok n) new newWork = (n ≡ length xs) × Labelled reads reach table xs old oldWork new newWork
 Answered reads reach table xs old oldWork (Err why) new newWork =
     Declined table xs reach (length old) (length oldWork) why × (new ≡ old) × (newWork ≡ oldWork)
+
+-- the same over the formulas of a table: what a whole labelling leaves, and what it answers
+abbrev pub Leaves : {K : Type 0} → (K → Reading) → (reach : ℕ) → Table → List State → (old oldWork new newWork : List K) → Type 0
+Leaves reads reach t xs old oldWork new newWork = Labelled reads reach (formulas_of t.draft) xs old oldWork new newWork
+
+abbrev pub Labelling : {K : Type 0} → (K → Reading) → (reach : ℕ) → Table → List State → (old oldWork : List K) → Result ℕ Refusal → (new newWork : List K) → Type 0
+Labelling reads reach t xs old oldWork result new newWork = Answered reads reach (formulas_of t.draft) xs old oldWork result new newWork

@@ -1,39 +1,22 @@
 // The labels of formulas that bind the variable. A loose formula has no labels of its own: its row is filled anew for each
 // binding that a formula above it needs, and only if that formula is made of it.
-ghost use Rattle.std.specs.Prelude.{◌≡◌, ℕ, ◌+◌, ◌*◌, ◌<◌, ◌≤◌, min, Bool, true, false, ◌⊎◌, length, Decides, slice_index_or};
-ghost use Rattle.logic.specs.States.{state_at};
+ghost use Rattle.std.specs.Prelude.{◌≡◌, ◌+◌, ◌*◌, ◌<◌, false, length};
 ghost use Rattle.logic.specs.Logic.{bind, some'};
-ghost use Rattle.logic.specs.Tables.{tree, loose};
-ghost use Rattle.labelling.specs.Tells.{Tells};
-ghost use Rattle.labelling.specs.Props.{Cone-prop};
-ghost use Rattle.labelling.specs.Bound.{Ready, Cone, ClosedTold, AllTold, Through};
+ghost use Rattle.logic.specs.Tables.{loose};
+ghost use Rattle.labelling.specs.Jobs.{ToldFree, Known, KnownBound, Widened, total, tree_at, bound_part};
 
-use crate::job::Job;
+use crate::job::{Binder, Job};
 use crate::rows::row_of;
 use labels::LabelKind;
 use logic::types::{Formula, Reference};
-use table::draft::MOST_FORMULAS;
-
-// Formula f, which binds the variable in a part, and the loose formulas which that part is made of.
-#[derive(Drop)]
-struct Binder<'a> {
-    job: &'a Job<'a>,
-    f: usize,
-    part: usize,
-    wanted: [bool; MOST_FORMULAS],
-    ghost within: { f < length job.now.table.now },
-    ghost below: { part < f },
-    ghost cone: { Cone job.now.table.now wanted f } by { Cone-prop job.now.table.now wanted f },
-    ghost ready: { Ready job.now.table.now wanted part },
-}
 
 // What the cells of the formulas before tell stands in the clauses, since they are lent to each call.
 impl<'a> Binder<'a> {
     // Labels the wanted formulas, which are loose, with the variable bound to v.
     fn label_bound<K: LabelKind + Copy>(&self, v: usize, before: &mut [K])
         requires room { length before.old ≡ self.now.f * self.now.job.now.n }
-        requires known { ClosedTold K.reads K.reach self.now.job.now.n (state_at self.now.job.now.states.now) self.now.job.now.table.now before.old self.now.f }
-        ensures told { AllTold K.reads K.reach self.now.job.now.n (state_at self.now.job.now.states.now) self.now.job.now.table.now self.now.wanted v before.new self.now.f }
+        requires known { Known K.reads K.reach self.now.job.now before.old self.now.f }
+        ensures told { KnownBound K.reads K.reach self.now v before.new }
     {
         let n = self.job.n;
         for (g, wanted) in self.wanted[..self.f].iter().enumerate() {
@@ -47,9 +30,9 @@ impl<'a> Binder<'a> {
     // Labels the formula, a `bind`.
     fn label_bind<K: LabelKind + Copy>(&self, before: &mut [K], own: &mut [K])
         requires room { (length before.old ≡ self.now.f * self.now.job.now.n) × (length own.old ≡ self.now.job.now.n) }
-        requires known { ClosedTold K.reads K.reach self.now.job.now.n (state_at self.now.job.now.states.now) self.now.job.now.table.now before.old self.now.f }
-        ensures known { ClosedTold K.reads K.reach self.now.job.now.n (state_at self.now.job.now.states.now) self.now.job.now.table.now before.new self.now.f }
-        ensures told { (v : ℕ) → Tells K.reads K.reach self.now.job.now.n (state_at self.now.job.now.states.now) v (bind (tree self.now.job.now.table.now self.now.part)) own.new }
+        requires known { Known K.reads K.reach self.now.job.now before.old self.now.f }
+        ensures known { Known K.reads K.reach self.now.job.now before.new self.now.f }
+        ensures told { ToldFree K.reads K.reach self.now.job.now (bind (bound_part self.now)) own.new }
     {
         // By place: for each state the part's row is filled anew, and its label is read at that state.
         for (p, cell) in own.iter_mut().enumerate() {
@@ -70,9 +53,9 @@ impl<'a> Binder<'a> {
     ) -> K
         requires fit { p < self.now.job.now.n }
         requires room { length before.old ≡ self.now.f * self.now.job.now.n }
-        requires known { ClosedTold K.reads K.reach self.now.job.now.n (state_at self.now.job.now.states.now) self.now.job.now.table.now before.old self.now.f }
-        ensures known { ClosedTold K.reads K.reach self.now.job.now.n (state_at self.now.job.now.states.now) self.now.job.now.table.now before.new self.now.f }
-        ensures told { (e : Bool) (c : ℕ) → 0 < c → c ≤ K.reach → Decides (K.reads result e c) ((K.reads so_far e c ≡ true) ⊎ Through (state_at self.now.job.now.states.now) (tree self.now.job.now.table.now self.now.part) kind reference (p + 1) e (min c self.now.job.now.n)) }
+        requires known { Known K.reads K.reach self.now.job.now before.old self.now.f }
+        ensures known { Known K.reads K.reach self.now.job.now before.new self.now.f }
+        ensures told { Widened K.reads K.reach self.now kind reference (p + 1) so_far result }
     {
         if reference.kind != kind {
             return so_far;
@@ -85,9 +68,9 @@ impl<'a> Binder<'a> {
     fn label_some<K: LabelKind + Copy>(&self, kind: u8, before: &mut [K], own: &mut [K])
         requires kind { 0 < kind }
         requires room { (length before.old ≡ self.now.f * self.now.job.now.n) × (length own.old ≡ self.now.job.now.n) }
-        requires known { ClosedTold K.reads K.reach self.now.job.now.n (state_at self.now.job.now.states.now) self.now.job.now.table.now before.old self.now.f }
-        ensures known { ClosedTold K.reads K.reach self.now.job.now.n (state_at self.now.job.now.states.now) self.now.job.now.table.now before.new self.now.f }
-        ensures told { (v : ℕ) → Tells K.reads K.reach self.now.job.now.n (state_at self.now.job.now.states.now) v (some' kind (tree self.now.job.now.table.now self.now.part)) own.new }
+        requires known { Known K.reads K.reach self.now.job.now before.old self.now.f }
+        ensures known { Known K.reads K.reach self.now.job.now before.new self.now.f }
+        ensures told { ToldFree K.reads K.reach self.now.job.now (some' kind (bound_part self.now)) own.new }
     {
         for (p, cell) in own.iter_mut().enumerate() {
             let state = self.job.states[p];
@@ -116,9 +99,9 @@ impl<'a> Job<'a> {
     fn label_closed<K: LabelKind + Copy>(&self, f: usize, before: &mut [K], own: &mut [K])
         requires fit { (f < length self.now.table.now) × (loose self.now.table.now f ≡ false) }
         requires room { (length before.old ≡ f * self.now.n) × (length own.old ≡ self.now.n) }
-        requires known { ClosedTold K.reads K.reach self.now.n (state_at self.now.states.now) self.now.table.now before.old f }
-        ensures known { ClosedTold K.reads K.reach self.now.n (state_at self.now.states.now) self.now.table.now before.new f }
-        ensures told { (v : ℕ) → Tells K.reads K.reach self.now.n (state_at self.now.states.now) v (tree self.now.table.now f) own.new }
+        requires known { Known K.reads K.reach self.now before.old f }
+        ensures known { Known K.reads K.reach self.now before.new f }
+        ensures told { ToldFree K.reads K.reach self.now (tree_at self.now f) own.new }
     {
         match self.table[f] {
             Formula::Bind(part) => self.binder(f, part).label_bind(before, own),
@@ -129,8 +112,8 @@ impl<'a> Job<'a> {
 
     // Labels each formula that is not loose. What the cells of loose formulas hold afterwards says nothing.
     pub(crate) fn label_table<K: LabelKind + Copy>(&self, cells: &mut [K])
-        requires room { length self.now.table.now * self.now.n ≡ length cells.old }
-        ensures told { ClosedTold K.reads K.reach self.now.n (state_at self.now.states.now) self.now.table.now cells.new (length self.now.table.now) }
+        requires room { length cells.old ≡ total self.now }
+        ensures told { Known K.reads K.reach self.now cells.new (length self.now.table.now) }
     {
         for (f, loose) in self.flags.iter().enumerate() {
             if !*loose {

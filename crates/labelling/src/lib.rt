@@ -3,6 +3,7 @@
 
 mod binders;
 mod job;
+mod plain;
 mod rows;
 mod wants;
 pub mod whole;

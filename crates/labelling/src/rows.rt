@@ -2,11 +2,9 @@
 // each call, so that their one length stands in the clauses.
 ghost use Rattle.std.specs.Prelude.{◌≡◌, ℕ, ◌+◌, ◌*◌, ◌^◌, ◌<◌, ◌≤◌, length, IfSome, MatchOption, slice_index_or};
 ghost use Rattle.labels.specs.Readings.{Same, opened, negated, both, either, seen};
-ghost use Rattle.logic.specs.States.{Trace};
-ghost use Rattle.logic.specs.Logic.{Tree, not', and', or', next, previous, until, since, at'};
-ghost use Rattle.logic.specs.Lawful.{LawfulTo};
-ghost use Rattle.labelling.specs.Rows.{at, cell, prior, row};
-ghost use Rattle.labelling.specs.Tells.{Tells, NamedState};
+ghost use Rattle.logic.specs.Logic.{not', and', or', next, previous, until, since};
+ghost use Rattle.labelling.specs.Rows.{cell, prior, row, ReadAt, Cleared};
+ghost use Rattle.labelling.specs.Tells.{Applied, Combined, AppliedAt};
 
 use labels::LabelKind;
 
@@ -20,7 +18,7 @@ pub(crate) fn row_of<K>(n: usize, f: usize, cells: &[K]) -> &[K]
 
 // Makes labels unknown. Not by `fill`: it asks for a clone that cannot fail, which a kind of label does not promise.
 pub(crate) fn clear<K: LabelKind + Copy>(cells: &mut [K])
-    ensures { (p : ℕ) (d : K) → p < length cells.old → Same K.reach (K.reads (slice_index_or cells.new p d)) opened }
+    ensures { Cleared K.reads K.reach cells.new (length cells.old) }
 {
     for cell in cells.iter_mut() {
         *cell = K::unknown();
@@ -39,7 +37,7 @@ pub(crate) fn fill_row<K: Copy, F: Fn(usize) -> K>(own: &mut [K], label: F)
 
 pub(crate) fn label_not<K: LabelKind + Copy>(a: &[K], own: &mut [K])
     requires long { length a.now ≡ length own.old }
-    ensures told { (s : Trace) (v : ℕ) (f : Tree) → Tells K.reads K.reach (length own.old) s v f a.now → Tells K.reads K.reach (length own.old) s v (not' f) own.new }
+    ensures told { Applied K.reads K.reach (length own.old) not' a.now own.new }
 {
     fill_row(
         own,
@@ -52,7 +50,7 @@ pub(crate) fn label_not<K: LabelKind + Copy>(a: &[K], own: &mut [K])
 
 pub(crate) fn label_and<K: LabelKind + Copy>(a: &[K], b: &[K], own: &mut [K])
     requires long { (length a.now ≡ length own.old) × (length b.now ≡ length own.old) }
-    ensures told { (s : Trace) (v : ℕ) (f g : Tree) → Tells K.reads K.reach (length own.old) s v f a.now → Tells K.reads K.reach (length own.old) s v g b.now → Tells K.reads K.reach (length own.old) s v (and' f g) own.new }
+    ensures told { Combined K.reads K.reach (length own.old) and' a.now b.now own.new }
 {
     fill_row(
         own,
@@ -65,7 +63,7 @@ pub(crate) fn label_and<K: LabelKind + Copy>(a: &[K], b: &[K], own: &mut [K])
 
 pub(crate) fn label_or<K: LabelKind + Copy>(a: &[K], b: &[K], own: &mut [K])
     requires long { (length a.now ≡ length own.old) × (length b.now ≡ length own.old) }
-    ensures told { (s : Trace) (v : ℕ) (f g : Tree) → Tells K.reads K.reach (length own.old) s v f a.now → Tells K.reads K.reach (length own.old) s v g b.now → Tells K.reads K.reach (length own.old) s v (or' f g) own.new }
+    ensures told { Combined K.reads K.reach (length own.old) or' a.now b.now own.new }
 {
     fill_row(
         own,
@@ -85,7 +83,7 @@ fn label_at<K: LabelKind + Copy>(row: &[K], p: usize) -> K
 
 pub(crate) fn label_next<K: LabelKind + Copy>(a: &[K], own: &mut [K])
     requires long { length a.now ≡ length own.old }
-    ensures told { (s : Trace) (v : ℕ) (f : Tree) → Tells K.reads K.reach (length own.old) s v f a.now → Tells K.reads K.reach (length own.old) s v (next f) own.new }
+    ensures told { Applied K.reads K.reach (length own.old) next a.now own.new }
 {
     fill_row(
         own,
@@ -106,7 +104,7 @@ fn label_before<K: LabelKind + Copy>(row: &[K], p: usize) -> K
 
 pub(crate) fn label_previous<K: LabelKind + Copy>(a: &[K], own: &mut [K])
     requires long { length a.now ≡ length own.old }
-    ensures told { (s : Trace) (v : ℕ) (f : Tree) → Tells K.reads K.reach (length own.old) s v f a.now → Tells K.reads K.reach (length own.old) s v (previous f) own.new }
+    ensures told { Applied K.reads K.reach (length own.old) previous a.now own.new }
 {
     fill_row(
         own,
@@ -121,7 +119,7 @@ pub(crate) fn label_previous<K: LabelKind + Copy>(a: &[K], own: &mut [K])
 // that is carried seen from each state on.
 pub(crate) fn label_until<K: LabelKind + Copy>(a: &[K], b: &[K], own: &mut [K])
     requires long { (length a.now ≡ length own.old) × (length b.now ≡ length own.old) }
-    ensures told { (s : Trace) (v : ℕ) (f g : Tree) → Tells K.reads K.reach (length own.old) s v f a.now → Tells K.reads K.reach (length own.old) s v g b.now → Tells K.reads K.reach (length own.old) s v (until f g) own.new }
+    ensures told { Combined K.reads K.reach (length own.old) until a.now b.now own.new }
 {
     let mut next = K::unknown();
     // By place: after a loop over `iter_mut().rev()` nothing is known of the cells.
@@ -133,7 +131,7 @@ pub(crate) fn label_until<K: LabelKind + Copy>(a: &[K], b: &[K], own: &mut [K])
 
 pub(crate) fn label_since<K: LabelKind + Copy>(a: &[K], b: &[K], own: &mut [K])
     requires long { (length a.now ≡ length own.old) × (length b.now ≡ length own.old) }
-    ensures told { (s : Trace) (v : ℕ) (f g : Tree) → Tells K.reads K.reach (length own.old) s v f a.now → Tells K.reads K.reach (length own.old) s v g b.now → Tells K.reads K.reach (length own.old) s v (since f g) own.new }
+    ensures told { Combined K.reads K.reach (length own.old) since a.now b.now own.new }
 {
     let mut carried = K::false_from(1);
     // By place in a and b: after a loop over `iter_mut().zip(..)` nothing is known of the cells.
@@ -146,7 +144,7 @@ pub(crate) fn label_since<K: LabelKind + Copy>(a: &[K], b: &[K], own: &mut [K])
 // The label at a state, and unknown where there is none.
 fn label_in<K: LabelKind + Copy>(row: &[K], state: Option<usize>) -> K
     requires { IfSome state (λ i. (1 ≤ i) × (i ≤ length row.now)) }
-    ensures { MatchOption state (Same K.reach (K.reads result) opened) (λ i. Same K.reach (K.reads result) (at K.reads row.now i)) }
+    ensures { ReadAt K.reads K.reach row.now state result }
 {
     state.map_or(K::unknown(), |i| row[i - 1])
 }
@@ -155,7 +153,7 @@ fn label_in<K: LabelKind + Copy>(row: &[K], state: Option<usize>) -> K
 pub(crate) fn label_named<K: LabelKind + Copy>(a: &[K], named: Option<usize>, own: &mut [K])
     requires long { length a.now ≡ length own.old }
     requires within { IfSome named (λ i. (1 ≤ i) × (i ≤ length a.now)) }
-    ensures told { (s : Trace) (v name : ℕ) (f : Tree) → LawfulTo (length own.old) s → NamedState s (length own.old) name named → Tells K.reads K.reach (length own.old) s v f a.now → Tells K.reads K.reach (length own.old) s v (at' name f) own.new }
+    ensures told { AppliedAt K.reads K.reach (length own.old) named a.now own.new }
 {
     let there = label_in(a, named);
     fill_row(

@@ -1,9 +1,8 @@
 // Whole labelling: the labels of all states of a record at all formulas of a table.
-ghost use Rattle.std.specs.Prelude.{◌≡◌, ℕ, ◌+◌, ◌*◌, ◌<◌, ◌≤◌, Bool, true, false, length, slice_index_or};
-ghost use Rattle.labels.specs.Readings.{Same, opened};
-ghost use Rattle.table.specs.Tables.{formulas_of};
-ghost use Rattle.labelling.specs.Bound.{Published};
-ghost use Rattle.labelling.specs.Whole.{LabelOf, Labelled, place, Answered};
+ghost use Rattle.std.specs.Prelude.{◌≡◌, ◌≤◌, length};
+ghost use Rattle.labelling.specs.Rows.{Cleared};
+ghost use Rattle.labelling.specs.Jobs.{AllPublished, JobLabelled, total};
+ghost use Rattle.labelling.specs.Whole.{HasLabels, Short, Roomy, Labelling};
 
 use crate::job::Job;
 use crate::rows::clear;
@@ -18,8 +17,8 @@ use table::finished::Table;
 impl<'a> Job<'a> {
     // Copies the labels of the formulas that are not loose to the label memory, and makes those of the loose ones unknown there.
     fn publish<K: LabelKind + Copy>(&self, work: &[K], cells: &mut [K])
-        requires { (length work.now ≡ length self.now.table.now * self.now.n) × (length cells.old ≡ length self.now.table.now * self.now.n) }
-        ensures { Published K.reads K.reach self.now.n self.now.flags.now work.now cells.new (length self.now.table.now) }
+        requires { (length work.now ≡ total self.now) × (length cells.old ≡ total self.now) }
+        ensures { AllPublished K.reads K.reach self.now work.now cells.new }
     {
         let n = self.n;
         cells.copy_from_slice(work);
@@ -33,9 +32,9 @@ impl<'a> Job<'a> {
 
     // Fills the rows in the working memory, publishes them, and makes the working memory unknown.
     fn label_rows<K: LabelKind + Copy>(&self, cells: &mut [K], work: &mut [K])
-        requires { (length work.old ≡ length self.now.table.now * self.now.n) × (length cells.old ≡ length self.now.table.now * self.now.n) }
-        ensures labels { (f i : ℕ) → f < length self.now.table.now → 1 ≤ i → i ≤ self.now.n → (d : K) → LabelOf K.reads K.reach self.now.table.now (self.now.states.now) f i (slice_index_or cells.new (place self.now.n f i) d) }
-        ensures cleared { (k : ℕ) (d : K) → k < length work.old → Same K.reach (K.reads (slice_index_or work.new k d)) opened }
+        requires { (length work.old ≡ total self.now) × (length cells.old ≡ total self.now) }
+        ensures labels { HasLabels K.reads K.reach self.now.table.now self.now.states.now cells.new }
+        ensures cleared { Cleared K.reads K.reach work.new (length work.old) }
     {
         self.label_table(work);
         self.publish(work, cells);
@@ -44,9 +43,9 @@ impl<'a> Job<'a> {
 
     // Labels the states, in as many cells of both memories as there are formulas times states.
     fn label_all<K: LabelKind + Copy>(&self, labels: &mut [K], work: &mut [K])
-        requires short { (self.now.n ≤ 256) × (self.now.n ≤ K.reach) }
-        requires roomy { (length self.now.table.now * self.now.n ≤ length labels.old) × (length self.now.table.now * self.now.n ≤ length work.old) }
-        ensures { Labelled K.reads K.reach self.now.table.now (self.now.states.now) labels.old work.old labels.new work.new }
+        requires short { Short self.now.n K.reach }
+        requires roomy { Roomy (total self.now) (length labels.old) (length work.old) }
+        ensures { JobLabelled K.reads K.reach self.now labels.old work.old labels.new work.new }
     {
         let total = self.table.len() * self.n;
         self.label_rows(&mut labels[..total], &mut work[..total]);
@@ -74,7 +73,7 @@ pub fn label_whole<K: LabelKind + Copy, R: Readable>(
     labels: &mut [K],
     work: &mut [K],
 ) -> Result<usize, Refusal>
-    ensures { Answered K.reads K.reach (formulas_of table.now.draft) (R.states log.now) labels.old work.old result labels.new work.new }
+    ensures { Labelling K.reads K.reach table.now (R.states log.now) labels.old work.old result labels.new work.new }
 {
     let n = log.count();
     if n > MOST_STATES || n > K::length() {

@@ -67,7 +67,7 @@ fn is_taken<R: Readable>(log: &R, state: State) -> bool
 
 // Refuses a state that may not follow those of a record; a record of 256 states is not continued.
 pub fn next_unlawful<R: Readable>(log: &R, state: State) -> Result<(), Refusal>
-    ensures { MatchResult result (λ _. MayFollow (R.states log.now) state) (λ u. MayNotFollow (R.states log.now) state u) }
+    ensures { MatchResult result (λ _. MayFollow (R.states log.now) state) (MayNotFollow (R.states log.now) state) }
 {
     let n = log.count();
     if n >= MOST_STATES {

@@ -3,41 +3,41 @@ ghost use Rattle.logic.specs.Laws.{StrongIsWeak, VerdictsStay, VerdictsAreSound,
 ghost use Rattle.logic.specs.Tables.{TreesUnfold};
 
 // What holds strongly holds weakly.
-pub(crate) fn strong_is_weak()
+pub fn strong_is_weak()
     ensures { StrongIsWeak }
 {}
 
 // A verdict stays at every later truncation point of every lawful extension.
-pub(crate) fn verdicts_stay()
+pub fn verdicts_stay()
     ensures { VerdictsStay }
 {}
 
 // A verdict is right on every lawful endless trace that begins with the kept states.
-pub(crate) fn verdicts_are_sound()
+pub fn verdicts_are_sound()
     ensures { VerdictsAreSound }
 {}
 
 // A formula that is not loose does not depend on the binding.
-pub(crate) fn binding_is_free()
+pub fn binding_is_free()
     ensures { BindingIsFree }
 {}
 
 // A formula of an orderly table is its operator over its parts' trees.
-pub(crate) fn trees_unfold()
+pub fn trees_unfold()
     ensures { TreesUnfold }
 {}
 
 // Every endless trace begins with its first n states, whatever it is.
-pub(crate) fn traces_begin()
+pub fn traces_begin()
     ensures { TracesBegin }
 {}
 
 // An endless trace is lawful exactly if all its beginnings are lawful records.
-pub(crate) fn lawful_by_beginnings()
+pub fn lawful_by_beginnings()
     ensures { LawfulByBeginnings }
 {}
 
 // Every lawful record goes on as a lawful endless trace, so there is one for a verdict to be right of.
-pub(crate) fn lawful_goes_on()
+pub fn lawful_goes_on()
     ensures { LawfulGoesOn }
 {}

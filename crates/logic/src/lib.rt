@@ -1,6 +1,6 @@
 // The logic: states, formulas, and what it means that a formula holds.
 #![tactic(auto)]
 
-mod laws;
+pub mod laws;
 pub mod parts;
 pub mod types;

@@ -1,5 +1,5 @@
 -- What a monitor's memory says.
-use Rattle.std.specs.Prelude.{◌≡◌, ℕ, ◌+◌, ◌-◌, ◌*◌, ◌^◌, ◌<◌, ◌≤◌, true, false, ◌⊎◌, List, length, Some, None, Option, slice_index_or}
+use Rattle.std.specs.Prelude.{◌≡◌, ℕ, ◌+◌, ◌-◌, ◌*◌, ◌^◌, ◌<◌, ◌≤◌, true, false, ◌⊎◌, List, length, Some, None, Option, ◌≢◌, slice_index_or}
 use Rattle.std.specs.List.{slice_get}
 use Rattle.logic.specs.declared.types.Formula.{Formula}
 use Rattle.logic.specs.declared.types.Rule.{Rule}
@@ -12,9 +12,10 @@ use Rattle.refusals.specs.declared.Refusal.TheVariants as refusal
 use Rattle.table.specs.Tables.{formulas_of, rules_of}
 use Rattle.table.specs.declared.finished.Table.{Table}
 use Rattle.expectations.specs.declared.types.Label.{Label}
+use Rattle.expectations.specs.declared.types.Standing.{Standing}
 use Rattle.expectations.specs.declared.types.Tally.{Tally}
 use Rattle.expectations.specs.declared.types.Label.TheVariants.{Unknown}
-use Rattle.expectations.specs.Expectations.{Labels, no_tally, tallied}
+use Rattle.expectations.specs.Expectations.{Labels, no_tally, standing, tallied}
 use Rattle.growth.specs.Growth.{label_of_number, labels_of}
 use Rattle.answers.specs.Answers.{Ground}
 use Rattle.monitor.specs.declared.book.Book.{Book}
@@ -39,6 +40,10 @@ NotClosed b f why =
 abbrev pub IsRule : Book → (r : ℕ) → Rule → Type 0
 IsRule b r rule = (r < length (rules_in b)) × (rule ≡ slice_index_or (rules_in b) r no_rule)
 
+-- why there is none
+abbrev pub NoRule : Book → (r : ℕ) → Refusal → Type 0
+NoRule b r why = (why ≡ refusal.NoSuchName) × (length (rules_in b) ≤ r)
+
 -- the label in a cell
 abbrev pub label_in : Option Dated → Label
 label_in (Some x) = label_of_number x.value
@@ -51,6 +56,10 @@ cell_at xs k = label_in (slice_get xs k)
 abbrev pub held : Book → Labels
 held b f i = cell_at b.cells (f * b.count + (i - 1))
 
+-- the standing of rule r's expectation of state s, by the labels that the cells hold, as the last point reads it
+abbrev pub standing_in : Book → (r s : ℕ) → Standing
+standing_in b r s = standing (held b) (slice_index_or (rules_in b) r no_rule) s b.count
+
 -- rule r's tally, counted by the labels that the cells hold, as the last point reads it
 abbrev pub tally_in : Book → (r : ℕ) → Tally
 tally_in b r = tallied (held b) (slice_index_or (rules_in b) r no_rule) b.count b.count
@@ -62,6 +71,10 @@ Countable t = (t.raised < 2 ^ 32) × ((t.pending < 2 ^ 32) × ((t.fulfilled < 2 
 -- the first m tallies count their rules' expectations as the last point reads them
 abbrev pub TalliesRight : Book → (m : ℕ) → Type 0
 TalliesRight b m = (k : ℕ) → k < m → slice_index_or b.tallies k no_tally ≡ tally_in b k
+
+-- every tally but that of rule r is the same
+abbrev pub OtherTallies : (r : ℕ) → Book → Book → Type 0
+OtherTallies r a b = (k : ℕ) → k ≢ r → slice_index_or b.tallies k no_tally ≡ slice_index_or a.tallies k no_tally
 
 -- all but the tallies is the same
 abbrev pub SameButTallies : Book → Book → Type 0

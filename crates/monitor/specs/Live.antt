@@ -1,5 +1,5 @@
 -- A live monitor, as clauses speak of it: what it stands on, the states of its record, and what it answers.
-use Rattle.std.specs.Prelude.{◌≡◌, ℕ, ◌+◌, List, length, Option, Result, slice_index_or}
+use Rattle.std.specs.Prelude.{◌≡◌, ℕ, ◌+◌, List, length, Some, None, Option, Result, MatchResult, slice_index_or}
 use Rattle.std.specs.List.{slice_get}
 use Rattle.logic.specs.declared.types.Rule.{Rule}
 use Rattle.logic.specs.declared.types.State.{State}
@@ -12,7 +12,7 @@ use Rattle.expectations.specs.declared.types.Verdict.{Verdict}
 use Rattle.expectations.specs.declared.types.Standing.{Standing}
 use Rattle.expectations.specs.declared.types.Notice.{Notice}
 use Rattle.expectations.specs.declared.types.Tally.{Tally}
-use Rattle.expectations.specs.Expectations.{Labels, verdict, standing, tallied, notices}
+use Rattle.expectations.specs.Expectations.{Labels, verdict, standing, tallied, of_state, from_state, notices}
 use Rattle.answers.specs.declared.types.Call.{Call}
 use Rattle.answers.specs.declared.types.Call.TheVariants.{Append, LabelAt, StandingAt, TallyOf, NoticeOf}
 use Rattle.answers.specs.declared.types.Answer.{Answer}
@@ -61,11 +61,25 @@ module _ {R : Type 0} {G : growing.Ghosts R} {D : readable.Ghosts R} where
   abbrev pub IsNew : Table → R → Monitor R G D → Type 0
   IsNew table log m = (table_of m ≡ table) × (log_of m ≡ log) × (count_of m ≡ 0)
 
+  -- the notices of point c: on the expectation that rule r has of state s, on all that it has, and of all rules
+  abbrev pub state_notices : Monitor R G D → (c r s : ℕ) → List Notice
+  state_notices m c r s = of_state (record_labels m) c r (rule_at m r) s
+
+  abbrev pub rule_notices : Monitor R G D → (c r : ℕ) → List Notice
+  rule_notices m c r = from_state (record_labels m) c r (rule_at m r) c 1
+
+  abbrev pub point_notices : Monitor R G D → (c : ℕ) → List Notice
+  point_notices m c = notices (record_labels m) (table_rules m) c
+
   -- ── What it answers ──
 
   -- the refusal that fits the call first, if one does
   abbrev pub refusal_at : Monitor R G D → Call → Option Refusal
   refusal_at m call = refused_by (count_of m) (ground_of m) (states_of m) call
+
+  -- a call is let pass if no refusal fits it, and refused for the first that does
+  abbrev pub Admits : {A : Type 0} → Monitor R G D → Call → Result A Refusal → Type 0
+  Admits m call result = MatchResult result (λ _. refusal_at m call ≡ None) (λ why. refusal_at m call ≡ Some why)
 
   -- v, or the refusal that fits the call first
   abbrev pub unless_refused : {A : Type 0} → Monitor R G D → Call → A → Result A Refusal
@@ -89,7 +103,7 @@ module _ {R : Type 0} {G : growing.Ghosts R} {D : readable.Ghosts R} where
 
   -- the notice of point c with number k, if there is one
   abbrev pub notice_at : Monitor R G D → (c k : ℕ) → Option Notice
-  notice_at m c k = slice_get (notices (record_labels m) (table_rules m) c) k
+  notice_at m c k = slice_get (point_notices m c) k
 
   -- what the calls answer: the value, or the refusal that fits first
   abbrev pub label_answer : Monitor R G D → (f i c : ℕ) → Result Verdict Refusal

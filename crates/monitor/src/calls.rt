@@ -4,8 +4,8 @@ ghost use Rattle.refusals.specs.declared.Refusal.TheVariants.{ForeignRecord, NoS
 ghost use Rattle.answers.specs.declared.types.Answer.TheVariants.{Number, Reads, Stands, Counts, Tells};
 ghost use Rattle.answers.specs.declared.types.Call.TheVariants.{Append, LabelAt, StandingAt, TallyOf, NoticeOf};
 ghost use Rattle.answers.specs.Answers.{as_answer};
-ghost use Rattle.monitor.specs.Book.{rules_in, IsClosed, NotClosed, IsRule};
-ghost use Rattle.monitor.specs.Live.{table_of, states_of, room_of, ground_of, Own, refusal_at, IsNew, label_answer, standing_answer, tally_answer, notice_answer, append_answer, reply_of, states_after};
+ghost use Rattle.monitor.specs.Book.{IsClosed, NotClosed, IsRule, NoRule};
+ghost use Rattle.monitor.specs.Live.{table_of, states_of, room_of, ground_of, Own, Admits, IsNew, label_answer, standing_answer, tally_answer, notice_answer, append_answer, reply_of, states_after};
 ghost use Rattle.monitor.specs.Whole.{Suffices, RecordLabelled, Agrees};
 
 use crate::book::Book;
@@ -48,7 +48,7 @@ impl Book {
 
     // The rule with a number, if the table has one.
     fn rule(&self, r: usize) -> Result<Rule, Refusal>
-        ensures { MatchResult result (IsRule self.now r) (λ why. (why ≡ NoSuchName) × (length (rules_in self.now) ≤ r)) }
+        ensures { MatchResult result (IsRule self.now r) (NoRule self.now r) }
     {
         self.table
             .rules()
@@ -133,7 +133,7 @@ impl<R: Growing> Monitor<R> {
 
     // The refusal that fits an append first, if there is one.
     fn admit(&self, state: State) -> Result<(), Refusal>
-        ensures { MatchResult result (λ _. refusal_at self.now (Append state) ≡ None) (λ why. refusal_at self.now (Append state) ≡ Some why) }
+        ensures { Admits self.now (Append state) result }
     {
         let n = self.own_count()?;
         if n >= MOST_STATES {
@@ -197,7 +197,8 @@ impl<R: Growing> Monitor<R> {
         work: &mut [K],
     ) -> Result<usize, Refusal>
         ensures whole { RecordLabelled K.reads K.reach self.now labels.old work.old result labels.new work.new }
-        ensures enough { Own self.now → Suffices K.reach self.now labels.old work.old → result ≡ Ok (length (states_of self.now)) }
+        ensures enough { Own self.now → Suffices K.reach self.now labels.old work.old →
+            result ≡ Ok (length (states_of self.now)) }
         ensures agrees { is_ok result ≡ true → Agrees K.reads (ground_of self.now) (states_of self.now) labels.new }
     {
         self.own_count()?;

@@ -32,7 +32,8 @@ impl Book {
     // declined, since the memory suffices for 64 formulas.
     pub(crate) fn follow<R: Readable>(&mut self, log: &R)
         ensures table { self.new.table ≡ self.old.table }
-        ensures followed { LawfulRecord (R.states log.now) → length (R.states log.now) ≤ 256 → Follows (R.states log.now) self.new }
+        ensures followed { LawfulRecord (R.states log.now) → length (R.states log.now) ≤ 256 →
+            Follows (R.states log.now) self.new }
     {
         if let Ok(n) = label_whole(&self.table, log, &mut self.cells, &mut self.work) {
             self.count = n;

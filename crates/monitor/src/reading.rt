@@ -1,10 +1,10 @@
 // What a monitor's memory tells, and how the tallies are counted again.
-ghost use Rattle.std.specs.Prelude.{◌≡◌, ℕ, ◌+◌, ◌-◌, ◌*◌, ◌^◌, ◌<◌, ◌≤◌, List, [], ◌∷◌, ◌++◌, length, slice_index_or};
+ghost use Rattle.std.specs.Prelude.{◌≡◌, ℕ, ◌+◌, ◌-◌, ◌*◌, ◌^◌, ◌<◌, ◌≤◌, List, [], ◌∷◌, ◌++◌, length, ◌≢◌, slice_index_or};
 ghost use Rattle.std.specs.List.{slice_get, flat_map};
 ghost use Rattle.std.specs.Option.{option_to_list};
 ghost use Rattle.logic.specs.Tables.{no_rule};
-ghost use Rattle.expectations.specs.Expectations.{raises, standing as standing_of, tallied, added, of_state, notices};
-ghost use Rattle.monitor.specs.Book.{held, rules_in, tally_in, Countable, SameButTallies, TalliesRight};
+ghost use Rattle.expectations.specs.Expectations.{no_tally, raises, standing as standing_of, added, of_state, notices};
+ghost use Rattle.monitor.specs.Book.{held, rules_in, standing_in, tally_in, Countable, OtherTallies, SameButTallies, TalliesRight};
 
 use crate::book::Book;
 use expectations::reading::{is_false_from, is_true_from, judge};
@@ -32,13 +32,6 @@ fn count_one(t: &mut Tally, standing: Standing)
             t.violated += 1;
         }
     }
-}
-
-// The tally comes to be another. One element of the array of tallies is lent to it.
-fn change(t: &mut Tally, to: Tally)
-    ensures { t.new ≡ to }
-{
-    *t = to;
 }
 
 // What a rule expects of a state, by the labels of a book. The numbers are small enough that a cell is found by them.
@@ -79,7 +72,8 @@ impl Expectation<'_> {
 
     // The notices that a point has on it, by the number of its rule: a raising, a fulfilment, a violation.
     fn events(&self, r: usize, point: usize) -> [Option<Notice>; 3]
-        ensures { flat_map option_to_list result ≡ of_state (held self.now.book.now) point r self.now.rule self.now.state }
+        ensures { flat_map option_to_list result ≡
+            of_state (held self.now.book.now) point r self.now.rule self.now.state }
     {
         if !self.is_raised() {
             return [None; 3];
@@ -112,34 +106,43 @@ impl Book {
             .map_or(Label::Unknown, |cell| label_told(*cell))
     }
 
-    // The tally of rule r as the last point reads it, counted from the labels.
-    fn tally_of(&self, r: usize) -> Tally
-        requires { r < length (rules_in self.now) }
-        ensures { result ≡ tally_in self.now r }
+    // What has become of rule r's expectation of a state, as the last point reads it.
+    fn last_standing(&self, r: usize, state: usize) -> Standing
+        requires rule { r < length (rules_in self.now) }
+        requires state { (1 ≤ state) × (state < 2 ^ 16) }
+        ensures { result ≡ standing_in self.now r state }
     {
-        let rule = self.table.rules()[r];
-        let mut t = Tally::default();
-        // Not `1..=`, after which it is not known where an empty loop ends.
-        for state in 1..self.count + 1 {
-            let expectation = Expectation {
-                book: self,
-                rule,
-                state,
-            };
-            count_one(&mut t, expectation.standing(self.count));
-        }
-        t
+        let expectation = Expectation {
+            book: self,
+            rule: self.table.rules()[r],
+            state,
+        };
+        expectation.standing(self.count)
     }
 
-    // Counts every rule's expectations again, each in its own place.
+    // Counts a rule's expectations again, in its own place: one element of the array of tallies is lent and changed.
+    fn recount_rule(&mut self, r: usize)
+        requires { r < length (rules_in self.old) }
+        ensures same { SameButTallies self.old self.new }
+        ensures right { slice_index_or self.new.tallies r no_tally ≡ tally_in self.new r }
+        ensures others { OtherTallies r self.old self.new }
+    {
+        self.tallies[r] = Tally::default();
+        // Not `1..=`, after which it is not known where an empty loop ends.
+        for state in 1..self.count + 1 {
+            let standing = self.last_standing(r, state);
+            count_one(&mut self.tallies[r], standing);
+        }
+    }
+
+    // Counts every rule's expectations again.
     pub(crate) fn recount(&mut self)
         ensures same { SameButTallies self.old self.new }
         ensures right { TalliesRight self.new (length (rules_in self.new)) }
     {
-        // By number, since no proof is made where a tally changes while the table is lent.
+        // By number: a rule is told apart by it, and the table is not lent while a tally changes.
         for r in 0..self.table.rules().len() {
-            let t = self.tally_of(r);
-            change(&mut self.tallies[r], t);
+            self.recount_rule(r);
         }
     }
 
@@ -152,7 +155,7 @@ impl Book {
         let mut more = k;
         let mut told = None;
         'found: for (r, rule) in self.table.rules().iter().enumerate() {
-            // Not `1..=`, as in `tally_of`.
+            // Not `1..=`, as in `recount_rule`.
             for state in 1..point + 1 {
                 let expectation = Expectation {
                     book: self,

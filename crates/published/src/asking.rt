@@ -1,10 +1,6 @@
 // A label, asked for point by point.
-ghost use Rattle.std.specs.Prelude.{◌≡◌, length};
-ghost use Rattle.growth.specs.Growth.{labels_of};
-ghost use Rattle.answers.specs.declared.types.Call.TheVariants.{LabelAt};
-ghost use Rattle.answers.specs.Answers.{refused_by, outcome};
-ghost use Rattle.monitor.specs.Book.{ground_of, table_of};
-ghost use Rattle.published.specs.Asking.{dated_at};
+ghost use Rattle.std.specs.Prelude.{◌≡◌};
+ghost use Rattle.published.specs.Asking.{dated_at, label_told};
 
 use expectations::types::{Label, Verdict};
 use monitor::live::Monitor;
@@ -29,7 +25,7 @@ pub(crate) fn label_of<R: Growing>(
     formula: usize,
     state: usize,
 ) -> Result<Label, Refusal>
-    ensures { result ≡ outcome (refused_by monitor.now.book.count (ground_of monitor.now.book (R.Growing.room monitor.now.log)) (R.Readable.states monitor.now.log) (LabelAt formula state (length (R.Readable.states monitor.now.log)))) (labels_of (table_of monitor.now.book) (R.Readable.states monitor.now.log) formula state) }
+    ensures { result ≡ label_told monitor.now formula state }
 {
     let last = monitor.count();
     for point in state..last {

@@ -1,6 +1,6 @@
 // What a record that grows accepts.
 ghost use Rattle.std.specs.Prelude.{◌≡◌, ℕ};
-ghost use Rattle.records.specs.Growth.{Appended};
+ghost use Rattle.records.specs.Growth.{Grows};
 
 use crate::readable::Readable;
 use logic::types::State;
@@ -18,5 +18,5 @@ pub trait Growing: Readable {
 
     fn append(&mut self, state: State) -> Result<(), Full>
         ensures kept { room self.new ≡ room self.old }
-        ensures appended { Appended (Self.Readable.states self.old) (room self.old) state result (Self.Readable.states self.new) };
+        ensures appended { Grows Self.Readable.states room self.old state result self.new };
 }

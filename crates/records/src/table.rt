@@ -43,7 +43,7 @@ impl<'a> Readable for TableRecord<'a> {
 }
 
 impl<'a> Growing for TableRecord<'a> {
-    ghost use Rattle.records.specs.Growth.{Appended};
+    ghost use Rattle.records.specs.Growth.{Grows};
     ghost use Rattle.records.specs.Tabled.{table_states, table_room, Written};
 
     ghost room = { table_room };
@@ -55,7 +55,7 @@ impl<'a> Growing for TableRecord<'a> {
     // It writes one row of the given memory, or none where it refuses.
     fn append(&mut self, state: State) -> Result<(), Full>
         ensures kept { table_room self.new ≡ table_room self.old }
-        ensures appended { Appended (table_states self.old) (table_room self.old) state result (table_states self.new) }
+        ensures appended { Grows table_states table_room self.old state result self.new }
         ensures same { self.new.rows.ghost_name ≡ self.old.rows.ghost_name }
         ensures written { Written self.old state result self.new }
     {

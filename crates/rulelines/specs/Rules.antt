@@ -32,3 +32,7 @@ rule_kind k = record {
 -- the numbers of a line as a rule, in range or not
 abbrev pub rule_meant : Numbers → Rule
 rule_meant v = record { condition = v.condition; content = v.content }
+
+-- the value that the numbers of a line show
+abbrev pub shown_by : Numbers → ℕ × Rule
+shown_by v = (v.number, rule_meant v)

@@ -1,7 +1,6 @@
-ghost use Rattle.std.specs.Prelude.{◌≡◌, ℕ, ◌≤◌, [], MatchOption, MatchResult, ◌≢◌};
+ghost use Rattle.std.specs.Prelude.{◌≤◌};
 ghost use Rattle.keys.specs.Keys.{count_text};
-ghost use Rattle.fields.specs.Lines.{Small, field};
-ghost use Rattle.fields.specs.Kinds.{Takes, Refuses};
+ghost use Rattle.fields.specs.Readers.{ReadsForm, GivenIf, ReadsValue};
 ghost use Rattle.rulelines.specs.Counts.{count_kind};
 
 use faults::line::LineFault;
@@ -9,9 +8,10 @@ use fields::lines::{Taken, read_line};
 use fields::values::Fields;
 use keys::CountKey;
 
-// The number that a line of one key shows.
+// The number that a line of one key shows. `count_kind .. 0` stands for the kind of a count up to any limit: the form of a line
+// does not depend on the limit.
 fn number_of(line: &[u8], key: CountKey) -> Option<u64>
-    ensures { MatchOption result ((n : ℕ) → Small n → line.now ≢ field (count_text key) n []) (λ n. Small n × (line.now ≡ field (count_text key) n [])) }
+    ensures { ReadsForm (count_kind (count_text key) 0) (λ n. n) line.now result }
 {
     let mut fields = Fields::of(line);
     let number = fields.number(key)?;
@@ -20,7 +20,7 @@ fn number_of(line: &[u8], key: CountKey) -> Option<u64>
 
 // A number as a count from 1 to `most`.
 fn count_of(number: u64, most: usize) -> Option<usize>
-    ensures { MatchOption result ((1 ≤ number) × (number ≤ most) → ⊥) (λ n. (1 ≤ number) × (number ≤ most) × (n ≡ number)) }
+    ensures { GivenIf ((1 ≤ number) × (number ≤ most)) number result }
 {
     let count = usize::try_from(number).ok()?;
     if count < 1 || count > most {
@@ -36,7 +36,7 @@ pub fn read_count(
     key: CountKey,
     most: usize,
 ) -> Result<Taken<usize>, LineFault>
-    ensures { MatchResult result (λ a. Takes (count_kind (count_text key) most) text.now a.value a.used) (λ e. Refuses (count_kind (count_text key) most) text.now place e) }
+    ensures { ReadsValue (count_kind (count_text key) most) (λ n. n) text.now place result }
 {
     read_line(
         text,

@@ -1,6 +1,5 @@
-ghost use Rattle.std.specs.Prelude.{◌≡◌, MatchOption};
-ghost use Rattle.fields.specs.Kinds.{ShowsNone};
-ghost use Rattle.rulelines.specs.Formulas.{Formed, entry_line, formula_kind};
+ghost use Rattle.fields.specs.Readers.{ReadsForm};
+ghost use Rattle.rulelines.specs.Formulas.{formula_kind};
 
 use fields::values::Fields;
 use keys::FormulaKey;
@@ -18,7 +17,7 @@ pub struct Entry {
 // The entry that a formula line shows. `formula_kind 0` stands for the kind of any number: the form of a line does not depend
 // on the number that is due.
 pub(crate) fn entry_of(line: &[u8]) -> Option<Entry>
-    ensures { MatchOption result (ShowsNone (formula_kind 0) line.now) (λ v. Formed v × (line.now ≡ entry_line v)) }
+    ensures { ReadsForm (formula_kind 0) (λ v. v) line.now result }
 {
     let mut fields = Fields::of(line);
     let number = fields.number(FormulaKey::Number)?;

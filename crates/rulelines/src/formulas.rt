@@ -1,7 +1,6 @@
-ghost use Rattle.std.specs.Prelude.{◌≡◌, MatchOption, MatchResult};
-ghost use Rattle.fields.specs.Kinds.{Refuses};
+ghost use Rattle.fields.specs.Readers.{GivenIf, ReadsMeaning};
 ghost use Rattle.rulelines.specs.Formulas.{Ranged, formula_kind};
-ghost use Rattle.rulelines.specs.Meanings.{meaning, FormulaTaken};
+ghost use Rattle.rulelines.specs.Meanings.{meaning};
 
 use crate::entries::{Entry, entry_of};
 use crate::operands::{formula_of, in_range};
@@ -11,7 +10,7 @@ use logic::types::Formula;
 
 // The formula of an entry, if it has number k and its operator's numbers are in their ranges.
 fn formula_in(entry: Entry, k: usize) -> Option<Formula>
-    ensures { MatchOption result (Ranged k entry → ⊥) (λ φ. Ranged k entry × (φ ≡ meaning entry)) }
+    ensures { GivenIf (Ranged k entry) (meaning entry) result }
 {
     // A cast, since no `From` leads from `usize` to `u64`.
     if entry.number != k as u64 || !in_range(entry.operator, entry.a, entry.b) {
@@ -22,7 +21,7 @@ fn formula_in(entry: Entry, k: usize) -> Option<Formula>
 
 // The formula that the first line of a text shows as number k; `place` is the line's, for a refusal.
 pub fn read_formula(text: &[u8], place: usize, k: usize) -> Result<Taken<Formula>, LineFault>
-    ensures { MatchResult result (λ a. FormulaTaken text.now k a.value a.used) (λ e. Refuses (formula_kind k) text.now place e) }
+    ensures { ReadsMeaning (formula_kind k) meaning text.now place result }
 {
     read_line(text, place, entry_of, |entry| formula_in(entry, k))
 }

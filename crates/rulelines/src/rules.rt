@@ -1,6 +1,5 @@
-ghost use Rattle.std.specs.Prelude.{◌≡◌, MatchOption, MatchResult};
-ghost use Rattle.fields.specs.Kinds.{Takes, Refuses, ShowsNone};
-ghost use Rattle.rulelines.specs.Rules.{Formed, Ranged, rule_line, rule_kind, rule_meant};
+ghost use Rattle.fields.specs.Readers.{ReadsForm, GivenIf, ReadsValue};
+ghost use Rattle.rulelines.specs.Rules.{Ranged, rule_kind, rule_meant, shown_by};
 
 use faults::line::LineFault;
 use fields::lines::{Taken, read_line};
@@ -20,7 +19,7 @@ struct Numbers {
 // The numbers that a rule line shows. `rule_kind 0` stands for the kind of any number: the form of a line does not depend on
 // the number that is due.
 fn numbers_of(line: &[u8]) -> Option<Numbers>
-    ensures { MatchOption result (ShowsNone (rule_kind 0) line.now) (λ v. Formed v.number (rule_meant v) × (line.now ≡ rule_line v.number (rule_meant v))) }
+    ensures { ReadsForm (rule_kind 0) shown_by line.now result }
 {
     let mut fields = Fields::of(line);
     let number = fields.number(RuleKey::Number)?;
@@ -35,7 +34,7 @@ fn numbers_of(line: &[u8]) -> Option<Numbers>
 
 // The rule that the numbers of a line give as number k, if they are in their ranges.
 fn rule_of(v: Numbers, k: usize) -> Option<Rule>
-    ensures { MatchOption result (Ranged k v.number (rule_meant v) → ⊥) (λ u. Ranged k v.number (rule_meant v) × (u ≡ rule_meant v)) }
+    ensures { GivenIf (Ranged k v.number (rule_meant v)) (rule_meant v) result }
 {
     // A cast, since no `From` leads from `usize` to `u64`.
     if v.number != k as u64 || v.condition > NUMBER_LIMIT || v.content > NUMBER_LIMIT {
@@ -49,7 +48,7 @@ fn rule_of(v: Numbers, k: usize) -> Option<Rule>
 
 // The rule that the first line of a text shows as number k; `place` is the line's, for a refusal.
 pub fn read_rule(text: &[u8], place: usize, k: usize) -> Result<Taken<Rule>, LineFault>
-    ensures { MatchResult result (λ a. Takes (rule_kind k) text.now (k, a.value) a.used) (λ e. Refuses (rule_kind k) text.now place e) }
+    ensures { ReadsValue (rule_kind k) (λ r. (k, r)) text.now place result }
 {
     read_line(text, place, numbers_of, |numbers| rule_of(numbers, k))
 }

@@ -1,5 +1,5 @@
 -- What a text that should begin with a rules text is read as.
-use Rattle.std.specs.Prelude.{◌≡◌, ℕ, ◌+◌, ◌≤◌, ◌⊎◌, List, [], ◌∷◌, ◌++◌, map, length, drop, Ok, Err, Result}
+use Rattle.std.specs.Prelude.{◌≡◌, ℕ, ◌+◌, ◌≤◌, ◌⊎◌, List, [], ◌∷◌, ◌++◌, map, length, drop, Ok, Err, Result, MatchResult}
 use Rattle.logic.specs.declared.types.Formula.{Formula}
 use Rattle.logic.specs.declared.types.Rule.{Rule}
 use Rattle.table.specs.declared.draft.Draft.{Draft}
@@ -77,6 +77,14 @@ pub record RulesRead (text : List ℕ) (formulas : List Formula) (a : Section) :
   pub count : a.count ≡ length (rules_of a.draft)
   pub ends : EndsIn text a.rest.now
   pub some : 1 ≤ a.count
+
+-- the formulas that the text begins with are read, or the text is refused
+abbrev pub ReadsFormulas : (text : List ℕ) → Result Section ReadFault → Type 0
+ReadsFormulas text r = MatchResult r (λ a. (entries : List Entry) × FormulasRead text a entries) (λ e. Refused text e)
+
+-- the rules that the text begins with are read, over these formulas, or their block is refused
+abbrev pub ReadsRules : List Formula → (text : List ℕ) → (place : ℕ) → Result Section ReadFault → Type 0
+ReadsRules formulas text place r = MatchResult r (λ a. RulesRead text formulas a) (λ e. Stops (rule_block formulas) text place e)
 
 -- a formula in range joins the others, or is refused since a part is not below it
 abbrev pub FormulaJoins : Draft → Formula → (place : ℕ) → Result (Unit {0}) TableFault → Draft → Type 0

@@ -1,9 +1,6 @@
-ghost use Rattle.std.specs.Prelude.{◌≡◌, ℕ, ◌≤◌, List, [], MatchResult};
-ghost use Rattle.rulelines.specs.declared.entries.Entry.{Entry};
+ghost use Rattle.std.specs.Prelude.{◌≡◌, ◌≤◌, []};
 ghost use Rattle.table.specs.Tables.{formulas_of, rules_of};
-ghost use Rattle.rulestexts.specs.Blocks.{Stops};
-ghost use Rattle.rulestexts.specs.Sections.{rule_block};
-ghost use Rattle.rulestexts.specs.Texts.{FormulasRead, RulesRead, Refused};
+ghost use Rattle.rulestexts.specs.Texts.{ReadsFormulas, ReadsRules};
 
 use crate::joins::{join_formula, join_rule};
 use faults::read::ReadFault;
@@ -29,7 +26,7 @@ pub(crate) struct Section<'a> {
 // The formulas that a text begins with.
 #[tactic(auto, using(crate::proofs::Progress::formulas_begin))]
 pub(crate) fn read_formulas(text: &[u8]) -> Result<Section<'_>, ReadFault>
-    ensures { MatchResult result (λ a. (vs : List Entry) × FormulasRead text.now a vs) (λ e. Refused text.now e) }
+    ensures { ReadsFormulas text.now result }
 {
     let head = read_count(text, 1, CountKey::Formulas, MOST_FORMULAS)?;
     let mut draft = Draft::new();
@@ -55,7 +52,7 @@ pub(crate) fn read_rules(
 ) -> Result<Section<'_>, ReadFault>
     requires ruleless { rules_of formulas ≡ [] }
     requires place { place ≤ 66 }
-    ensures { MatchResult result (λ a. RulesRead text.now (formulas_of formulas) a) (λ e. Stops (rule_block (formulas_of formulas)) text.now place e) }
+    ensures { ReadsRules (formulas_of formulas) text.now place result }
 {
     let head = read_count(text, place, CountKey::Rules, MOST_RULES)?;
     let mut draft = formulas;

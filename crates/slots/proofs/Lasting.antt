@@ -1,29 +1,33 @@
 -- From the law of runs: the answers about the double free, and that it is violated for good.
-use Rattle.std.proofs.Common.{◌≡◌, ℕ, zero, suc, ◌<◌, List, [], ◌∷◌, length, get_or, take, Ok, Result, sym, refl, ap, ◌∙◌, subst, arith}
-use Rattle.std.proofs.lemmas.List.{ext_get_or}
+use Rattle.std.proofs.Common.{◌≡◌, ℕ, zero, suc, ◌<◌, List, [], ◌∷◌, length, get_or, take, replicate, ◌++◌, Some, Ok, Err, Result, sym, refl, ap, ◌∙◌, subst, arith, rules}
+use Rattle.std.proofs.lemmas.List.{ext_get_or, get_or-replicate}
 use Rattle.logic.specs.declared.types.Formula.{Formula}
 use Rattle.logic.specs.declared.types.Rule.{Rule}
 use Rattle.logic.specs.declared.types.State.{State}
 use Rattle.logic.specs.Lawful.{Lawful}
 use Rattle.logic.specs.Logic.{Holds}
 use Rattle.logic.specs.States.{Trace, Begins, blank}
+use Rattle.records.specs.Growth.{Appended}
 use Rattle.logic.specs.Tables.{tree, tree_to, loose}
 use Rattle.dating.specs.Dated.{true_from, false_from}
 use Rattle.dating.specs.Labels.{until_from, label}
 use Rattle.expectations.specs.declared.types.Verdict.TheVariants as is
+use Rattle.expectations.specs.declared.types.Standing.TheVariants.{Violated}
 use Rattle.growth.specs.Growth.{labels_of}
 use Rattle.answers.specs.declared.types.Answer.{Answer}
-use Rattle.answers.specs.declared.types.Answer.TheVariants.{Reads}
 use Rattle.answers.specs.declared.types.Call.{Call}
-use Rattle.answers.specs.declared.types.Call.TheVariants.{Append, LabelAt}
+use Rattle.answers.specs.declared.types.Call.TheVariants.{Append}
 use Rattle.answers.specs.Tests.{carried_to}
 use Rattle.answers.specs.Answers.{Ground, told, after, accepted}
 use Rattle.answers.specs.Law.{foreign, Ran, Judged}
+use Rattle.answers.specs.Lasting.{NeverTakenBack}
 use Rattle.refusals.specs.declared.Refusal.{Refusal}
 use Rattle.monitor.specs.Book.{ground}
-use Rattle.runs.specs.Meant.{GoesOn}
+use Rattle.monitor.specs.Meant.{GoesOn}
 use Rattle.slots.specs.Slots.{slot_formulas, slot_rule, double_free_log}
-use Rattle.slots.specs.ForGood.{slot_calls, slot_answers, slot_content, ForGood}
+use Rattle.slots.specs.ForGood.{slot_calls, slot_answers, slot_content, violation, ForGood, NoneTakenBack}
+use Rattle.slots.specs.Instances.{slots}
+use Rattle.slots.proofs.Instances.{content_is, true_in_log, false_in_log}
 
 -- ── The answers to a list of calls, one after another ──
 abbrev tolds : Ground → List State → List Call → List (Result Answer Refusal)
@@ -37,9 +41,6 @@ told_at G xs (c ∷ cs) zero h = refl
 told_at G xs (c ∷ cs) (suc k) h = told_at G (after G xs c) cs k (omega arith)
 
 -- ── The slot's table, over a record with room for 64 states ──
-abbrev slots : Ground
-slots = ground slot_formulas (slot_rule ∷ []) 64
-
 pub slots_are : (formulas : List Formula) (rules : List Rule) (room : ℕ) → formulas ≡ slot_formulas → rules ≡ slot_rule ∷ [] → room ≡ 64 →
     ground formulas rules room ≡ slots
 slots_are formulas rules room f r n =
@@ -53,21 +54,8 @@ all_told : tolds slots [] slot_calls ≡ slot_answers
 unfolding carried_to labels_of label until_from true_from false_from tree tree_to loose
 all_told = refl
 
-content_is : tree slot_formulas 4 ≡ slot_content
-unfolding tree tree_to
-content_is = refl
-
--- the labels that the answers tell
-freed_told : told slots double_free_log (LabelAt 4 1 2) ≡ Ok (Reads is.True)
-unfolding labels_of label until_from true_from false_from tree tree_to loose
-freed_told = refl
-
-taken_told : told slots double_free_log (LabelAt 4 3 4) ≡ Ok (Reads is.False)
-unfolding labels_of label until_from true_from false_from tree tree_to loose
-taken_told = refl
-
 pub as_expected : (G : Ground) (start : List State) (calls : List Call) (answers : List (Result Answer Refusal)) (ends : List State) →
-    G ≡ slots → start ≡ [] → calls ≡ slot_calls → length answers ≡ 15 → Ran G start calls answers ends →
+    G ≡ slots → start ≡ [] → calls ≡ slot_calls → length answers ≡ 17 → Ran G start calls answers ends →
     (answers ≡ slot_answers) × (ends ≡ double_free_log)
 as_expected G start calls answers ends is-slots empty same long ran =
     let law : Ran slots [] slot_calls answers ends =
@@ -84,9 +72,9 @@ pub lasts_for_good : (G : Ground) (ends : List State) → G ≡ slots → ends �
 lasts_for_good G ends is-slots same law on =
     let judged : Judged slots double_free_log = subst (Judged slots) same (subst (λ H. Judged H ends) is-slots law) in
     let so : (u : Trace) → Lawful u → Begins double_free_log u → (v : ℕ) → Holds u v 1 slot_content = λ u lu b v.
-    subst (Holds u v 1) content_is (judged.true_is_so 4 1 2 freed_told u lu b v) in
+    subst (Holds u v 1) content_is (judged.true_is_so 4 1 2 true_in_log u lu b v) in
     let not_so : (u : Trace) → Lawful u → Begins double_free_log u → (v : ℕ) → Holds u v 3 slot_content → ⊥ = λ u lu b v h.
-    judged.false_is_not 4 3 4 taken_told u lu b v (subst (Holds u v 3) (sym content_is) h) in
+    judged.false_is_not 4 3 4 false_in_log u lu b v (subst (Holds u v 3) (sym content_is) h) in
     record {
       goes_on = subst GoesOn same on;
       content_true = so;
@@ -94,3 +82,25 @@ lasts_for_good G ends is-slots same law on =
       freed = λ u lu b. so u lu b 0;
       never_freed = λ u lu b h. not_so u lu b 0 h;
     }
+
+-- ── None of the answers is taken back ──
+pub none_taken_back : (calls : List Call) (answers : List (Result Answer Refusal)) → calls ≡ slot_calls → answers ≡ slot_answers → NeverTakenBack calls answers → NoneTakenBack
+none_taken_back calls answers same answered law =
+    let never : NeverTakenBack slot_calls slot_answers = subst (NeverTakenBack slot_calls) answered (subst (λ cs. NeverTakenBack cs answers) same law) in
+    record {
+      standings = λ k d later point is_call. never.standings 6 k 0 3 4 d (Violated 4) later (omega arith, refl) is_call point (λ e. grind (rules, e)) refl;
+      labels = λ k d later point is_call. never.labels 4 k 4 3 4 d is.False later (omega arith, refl) is_call point (λ e. grind (rules, e)) refl;
+      notices = λ k later is_call. never.notices 5 k 4 0 (Some violation) later (omega arith, refl) is_call refl;
+    }
+
+-- ── Over a record that holds a state beforehand ──
+pub one_held : {U E : Type 0} (xs ys : List State) (room : ℕ) (x : State) (r : Result U E) → xs ≡ [] → room ≡ 64 → Appended xs room x r ys → 0 < length ys
+one_held xs ys room x (Ok _) empty wide a = omega (arith, ap length (a.1 ∙ ap (λ zs. zs ++ x ∷ []) empty))
+one_held xs ys room x (Err _) empty wide a = absurd (omega (arith, a.0, wide, ap length empty))
+
+pub all_foreign : (G : Ground) (start : List State) (calls : List Call) (answers : List (Result Answer Refusal)) (ends : List State) →
+    0 < length start → calls ≡ slot_calls → length answers ≡ 17 → Ran G start calls answers ends → answers ≡ replicate 17 foreign
+all_foreign G start calls answers ends held same long ran =
+    let other = ran.foreign_record held in
+    ext_get_or foreign answers (replicate 17 foreign) long
+    (λ k h. other.1 k (omega (arith, h, long, ap length same)) ∙ sym (get_or-replicate 17 k foreign foreign (omega (arith, h, long))))

@@ -12,6 +12,8 @@ mod rules_read;
 #[cfg(test)]
 mod rules_refused;
 #[cfg(test)]
+mod tables_made;
+#[cfg(test)]
 mod traces_read;
 #[cfg(test)]
 mod words_told;

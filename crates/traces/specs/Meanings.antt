@@ -1,5 +1,6 @@
 -- The state that a trace line means, and what a text that should begin with one is read as.
 use Rattle.std.specs.Prelude.{◌≡◌, ℕ, List, Result, MatchResult}
+use Rattle.logic.specs.declared.types.Reference.{Reference}
 use Rattle.logic.specs.declared.types.State.{State}
 use Rattle.faults.specs.declared.line.LineFault.{LineFault}
 use Rattle.fields.specs.Kinds.{Fits, Takes, Refuses}
@@ -7,12 +8,17 @@ use Rattle.fields.specs.declared.lines.Taken.{Taken}
 use Rattle.traces.specs.declared.numbers.Numbers.{Numbers}
 use Rattle.traces.specs.Traces.{trace_kind}
 
+-- the reference that two numbers give
+abbrev pub reference : (kind target : ℕ) → Reference
+reference kind target = record { kind = kind; target = target }
+
+-- the state that the numbers of a line give
 abbrev pub meaning : Numbers → State
 meaning v = record {
   signals = v.signals;
   nominal = v.nominal;
-  first = record { kind = v.first_kind; target = v.first_target };
-  second = record { kind = v.second_kind; target = v.second_target };
+  first = reference v.first_kind v.first_target;
+  second = reference v.second_kind v.second_target;
 }
 
 -- The text's first line passes after a count of states and means the state x, and `rest` follows it.

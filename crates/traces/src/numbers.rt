@@ -1,6 +1,5 @@
-ghost use Rattle.std.specs.Prelude.{◌≡◌, MatchOption};
-ghost use Rattle.fields.specs.Kinds.{ShowsNone};
-ghost use Rattle.traces.specs.Traces.{Formed, trace_kind, trace_line};
+ghost use Rattle.fields.specs.Readers.{ReadsForm};
+ghost use Rattle.traces.specs.Traces.{trace_kind};
 
 use fields::values::Fields;
 use keys::TraceKey;
@@ -20,7 +19,7 @@ pub struct Numbers {
 // The numbers that a trace line shows. `trace_kind 0` stands for the kind after any count of states: the form of a line does
 // not depend on the count.
 pub(crate) fn numbers_of(line: &[u8]) -> Option<Numbers>
-    ensures { MatchOption result (ShowsNone (trace_kind 0) line.now) (λ v. Formed v × (line.now ≡ trace_line v)) }
+    ensures { ReadsForm (trace_kind 0) (λ v. v) line.now result }
 {
     let mut fields = Fields::of(line);
     let state = fields.number(TraceKey::State)?;

@@ -1,6 +1,7 @@
-ghost use Rattle.std.specs.Prelude.{◌≡◌, ◌≤◌, MatchOption};
+ghost use Rattle.std.specs.Prelude.{◌≤◌};
+ghost use Rattle.fields.specs.Readers.{GivenIf};
 ghost use Rattle.traces.specs.Traces.{Ranged};
-ghost use Rattle.traces.specs.Meanings.{meaning, Reads};
+ghost use Rattle.traces.specs.Meanings.{reference, meaning, Reads};
 
 use crate::numbers::{Numbers, numbers_of};
 use faults::line::LineFault;
@@ -9,7 +10,7 @@ use logic::types::{MOST_KIND, MOST_STATES, Reference, State};
 
 // The reference of two numbers, if they are in their ranges.
 fn reference_of(kind: u64, target: u64) -> Option<Reference>
-    ensures { MatchOption result ((kind ≤ 15) × (target ≤ 256) → ⊥) (λ r. (kind ≤ 15) × (target ≤ 256) × (r.kind ≡ kind) × (r.target ≡ target)) }
+    ensures { GivenIf ((kind ≤ 15) × (target ≤ 256)) (reference kind target) result }
 {
     // A cast, as below.
     if kind > u64::from(MOST_KIND) || target > MOST_STATES as u64 {
@@ -23,7 +24,7 @@ fn reference_of(kind: u64, target: u64) -> Option<Reference>
 
 // The state that the numbers of a line give after a count of states, if they are in their ranges.
 fn state_of(v: Numbers, count: usize) -> Option<State>
-    ensures { MatchOption result (Ranged count v → ⊥) (λ x. Ranged count v × (x ≡ meaning v)) }
+    ensures { GivenIf (Ranged count v) (meaning v) result }
 {
     // A cast, since no `From` leads from `usize` to `u64`.
     if count >= MOST_STATES || v.state != count as u64 + 1 {

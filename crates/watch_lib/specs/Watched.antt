@@ -13,10 +13,17 @@ use Rattle.traces.specs.Traces.{trace_kind}
 use Rattle.traces.specs.Meanings.{Passes, StateTaken}
 use Rattle.rulestexts.specs.Texts.{Whole}
 use Rattle.rulestexts.specs.Texts as rulesText
+use Rattle.expectations.specs.declared.types.Notice.{Notice}
 use Rattle.expectations.specs.Expectations.{notices}
 use Rattle.answers.specs.declared.types.Call.TheVariants.{Append}
 use Rattle.answers.specs.Answers.{Ground, refusal_of}
-use Rattle.monitor.specs.Book.{ground}
+use Rattle.records.specs.declared.growing.Growing as growing
+use Rattle.records.specs.declared.readable.Readable as readable
+use Rattle.table.specs.declared.finished.Table.{Table}
+use Rattle.table.specs.Tables.{formulas_of, rules_of}
+use Rattle.monitor.specs.declared.live.Monitor.{Monitor}
+use Rattle.monitor.specs.Book.{ground, ground_on}
+use Rattle.monitor.specs.Live.{states_of, ground_of}
 use Rattle.watch_lib.specs.declared.lines.Line.{Line}
 use Rattle.watch_lib.specs.declared.lines.Line.TheVariants.{Told, Refused, End}
 use Rattle.watch_lib.specs.Sums.{summed}
@@ -70,8 +77,27 @@ pub data Watched (input : List ℕ) (lines : List Line) : Type 0 where
 
 -- ── what the parts of the program do ──
 
+-- a line for each of these notices of point c is added
+abbrev pub Adds : (c : ℕ) → List Notice → (old new : List Line) → Type 0
+Adds c xs old new = new ≡ old ++ map (Told c) xs
+
 -- a line, which has the number `place`, is taken, with the state in it and its count of bytes, or not, with the line of output that tells so
 abbrev pub Steps : Ground → List State → (text : List ℕ) → (place : ℕ) → Result ℕ Line → List State → Type 0
 Steps G xs text place (Ok used) ys =
     (x : State) × StateTaken text (length xs) x used × (refusal_of G xs (Append x) ≡ None) × (ys ≡ xs ++ x ∷ [])
 Steps G xs text place (Err line) ys = (n : ℕ) × NotTaken G xs text n × (line ≡ Refused n place) × (ys ≡ xs)
+
+-- where a rules text of so many bytes, with its table, begins an input: what is printed of the trace lines after it, over a record
+-- with room for so many states
+abbrev pub TracedAfter : Table → (used : ℕ) → (input : List ℕ) → (room : ℕ) → List Line → Type 0
+TracedAfter table used input room lines =
+    Traced (ground_on table room) (drop used input) (length (formulas_of table.draft) + length (rules_of table.draft) + 3) lines
+
+module _ {R : Type 0} {G : growing.Ghosts R} {D : readable.Ghosts R} where
+  -- a monitor's step through one line: it was m and is n
+  abbrev pub MonitorSteps : Monitor R G D → (text : List ℕ) → (place : ℕ) → Result ℕ Line → Monitor R G D → Type 0
+  MonitorSteps m text place result n = Steps (ground_of m) (states_of m) text place result (states_of n)
+
+  -- so many bytes of the text were used, one at least, and there is one state more
+  abbrev pub Advances : Monitor R G D → (text : List ℕ) → (used : ℕ) → Monitor R G D → Type 0
+  Advances m text used n = (1 ≤ used) × (used ≤ length text) × (length (states_of n) ≡ length (states_of m) + 1)

@@ -1,10 +1,9 @@
 // The notices of a truncation point.
-ghost use Rattle.std.specs.Prelude.{◌≡◌, ◌<◌, ◌≤◌, ◌++◌, map, length, OnOk};
+ghost use Rattle.std.specs.Prelude.{◌≡◌, ◌<◌, ◌≤◌, length, OnOk};
 ghost use Rattle.std.specs.List.{flat_map};
 ghost use Rattle.std.specs.Option.{option_to_list};
-ghost use Rattle.expectations.specs.Expectations.{of_state, from_state, notices};
-ghost use Rattle.monitor.specs.Live.{states_of, table_rules, rule_at, record_labels, standing_at};
-ghost use Rattle.watch_lib.specs.declared.lines.Line.TheVariants.{Told};
+ghost use Rattle.monitor.specs.Live.{states_of, table_rules, standing_at, state_notices, rule_notices, point_notices};
+ghost use Rattle.watch_lib.specs.Watched.{Adds};
 
 use crate::lines::Line;
 use crate::watcher::Watcher;
@@ -34,7 +33,7 @@ impl<R: Growing> Watcher<R> {
         requires from { 1 ≤ state }
         requires by { state ≤ point }
         requires to { point ≤ length (states_of self.now.monitor) }
-        ensures { flat_map option_to_list result ≡ of_state (record_labels self.now.monitor) point rule (rule_at self.now.monitor rule) state }
+        ensures { flat_map option_to_list result ≡ state_notices self.now.monitor point rule state }
     {
         let told = |is_so: bool, event: Event| {
             is_so.then_some(Notice {
@@ -64,7 +63,7 @@ impl<R: Growing> Watcher<R> {
         requires from { 1 ≤ state }
         requires by { state ≤ point }
         requires to { point ≤ length (states_of self.now.monitor) }
-        ensures { OnOk result (lines.new.items ≡ lines.old.items ++ map (Told point) (of_state (record_labels self.now.monitor) point rule (rule_at self.now.monitor rule) state)) }
+        ensures { OnOk result (Adds point (state_notices self.now.monitor point rule state) lines.old.items lines.new.items) }
     {
         // Not by `flatten`: an invariant would have to say what its source and its inner iterators have left.
         for told in self.notices_of(rule, state, point) {
@@ -81,7 +80,7 @@ impl<R: Growing> Watcher<R> {
         requires rule { rule < length (table_rules self.now.monitor) }
         requires from { 1 ≤ point }
         requires to { point ≤ length (states_of self.now.monitor) }
-        ensures { OnOk result (lines.new.items ≡ lines.old.items ++ map (Told point) (from_state (record_labels self.now.monitor) point rule (rule_at self.now.monitor rule) point 1)) }
+        ensures { OnOk result (Adds point (rule_notices self.now.monitor point rule) lines.old.items lines.new.items) }
     {
         // Not `1..=`, after which it is not known where an empty loop ends.
         for state in 1..point + 1 {
@@ -95,7 +94,7 @@ impl<R: Growing> Watcher<R> {
     pub(crate) fn tell_point(&self, point: usize, lines: &mut Vec<Line>) -> Result<(), AllocError>
         requires from { 1 ≤ point }
         requires to { point ≤ length (states_of self.now.monitor) }
-        ensures { OnOk result (lines.new.items ≡ lines.old.items ++ map (Told point) (notices (record_labels self.now.monitor) (table_rules self.now.monitor) point)) }
+        ensures { OnOk result (Adds point (point_notices self.now.monitor point) lines.old.items lines.new.items) }
     {
         // By number: a monitor is asked for the standings of rule k.
         for rule in 0..self.rules {

@@ -1,7 +1,7 @@
 // One trace line after another.
-ghost use Rattle.std.specs.Prelude.{◌≡◌, ◌+◌, ◌≤◌, [], length, IfOk};
+ghost use Rattle.std.specs.Prelude.{◌≡◌, ◌≤◌, [], length, IfOk};
 ghost use Rattle.monitor.specs.Live.{table_of, states_of, room_of, ground_of};
-ghost use Rattle.watch_lib.specs.Watched.{Steps, Traced};
+ghost use Rattle.watch_lib.specs.Watched.{MonitorSteps, Advances, Traced};
 
 use crate::lines::Line;
 use crate::watcher::Watcher;
@@ -14,8 +14,8 @@ impl<R: Growing> Watcher<R> {
     // Appends the state of the text's first line, and answers the bytes of the line, or the line of output that tells why it
     // is not taken; `place` is the line's, for a refusal.
     fn take_line(&mut self, text: &[u8], place: usize) -> Result<usize, Line>
-        ensures steps { Steps (ground_of self.old.monitor) (states_of self.old.monitor) text.now place result (states_of self.new.monitor) }
-        ensures bytes { IfOk result (λ used. (1 ≤ used) × (used ≤ length text.now) × (length (states_of self.new.monitor) ≡ length (states_of self.old.monitor) + 1)) }
+        ensures steps { MonitorSteps self.old.monitor text.now place result self.new.monitor }
+        ensures bytes { IfOk result (λ used. Advances self.old.monitor text.now used self.new.monitor) }
         ensures table { table_of self.new.monitor ≡ table_of self.old.monitor }
         ensures room { room_of self.new.monitor ≡ room_of self.old.monitor }
     {

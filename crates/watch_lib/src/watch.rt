@@ -1,9 +1,7 @@
 // From an input to the lines of output.
-ghost use Rattle.std.specs.Prelude.{◌≡◌, ◌+◌, ◌≤◌, [], ◌∷◌, length, drop, IfOk};
-ghost use Rattle.table.specs.Tables.{formulas_of, rules_of};
+ghost use Rattle.std.specs.Prelude.{◌≡◌, ◌≤◌, [], ◌∷◌, length, IfOk};
 ghost use Rattle.watch_lib.specs.Laws.{GoesOn, Only};
-ghost use Rattle.monitor.specs.Book.{ground_on};
-ghost use Rattle.watch_lib.specs.Watched.{Traced, Watched};
+ghost use Rattle.watch_lib.specs.Watched.{TracedAfter, Watched};
 
 use crate::lines::Line;
 use crate::watcher::Watcher;
@@ -39,7 +37,7 @@ fn watch_log<R: Growing + Drop>(
     requires empty { R.Readable.states log ≡ [] }
     requires used { rules.used ≤ length input.now }
     requires small { length input.now ≤ 32768 }
-    ensures { IfOk result (λ v. Traced (ground_on rules.value (R.Growing.room log)) (drop rules.used input.now) (length (formulas_of rules.value.draft) + length (rules_of rules.value.draft) + 3) v.items) }
+    ensures { IfOk result (λ v. TracedAfter rules.value rules.used input.now (R.Growing.room log) v.items) }
 {
     let place = rules.value.formulas().len() + rules.value.rules().len() + 3;
     Watcher::new(rules.value, log).follow(heap, &input[rules.used..], place)

@@ -10,15 +10,16 @@ use Rattle.kinds_agree.proofs.count_agreeing.Goals as goal
 pub loop-k-preserved : goal.loop-k-preserved
 loop-k-preserved c =
     let so_far = c.loop-k.invariant in
-    let table = formulas_of c.args.table.now.draft in
-    let agrees : length table ≤ 32 → c.kinds_agree.result ≡ true = λ few. c.kinds_agree.ensures.exact.1 (subst (Labellable 64 96 table) (sym c.numbered_log.ensures) (numbered_labellable table c.loop-k.k few)) in
-    let fits : c.kinds_agree.result ≡ true → 32 < length table → ⊥ = λ so. numbered_long table c.loop-k.k (subst (Labellable 64 96 table) c.numbered_log.ensures (c.kinds_agree.ensures.exact.0 so)) in
+    let t = c.args.table.now in
+    let table = formulas_of t.draft in
+    let agrees : length table ≤ 32 → c.kinds_agree.result ≡ true = λ few. c.kinds_agree.ensures.exact.1 (subst (Labellable 64 96 96 t) (sym c.numbered_log.ensures) (numbered_labellable t c.loop-k.k few)) in
+    let fits : c.kinds_agree.result ≡ true → 32 < length table → ⊥ = λ so. numbered_long t c.loop-k.k (subst (Labellable 64 96 96 t) c.numbered_log.ensures (c.kinds_agree.ensures.exact.0 so)) in
     elim c.if-kinds_agree.branch [
       | then-kinds_agree w ↦ (
         omega (arith, w.agreed-is, so_far.0),
         (λ same j less.
             ⊎_elim
-            (λ (here : j ≡ c.loop-k.k). subst (λ i. KindsAgreed table (numbered i)) (sym here) (subst (KindsAgreed table) c.numbered_log.ensures (c.kinds_agree.ensures.told w.if-kinds_agree.true)))
+            (λ (here : j ≡ c.loop-k.k). subst (λ i. KindsAgreed t (numbered i)) (sym here) (subst (KindsAgreed t) c.numbered_log.ensures (c.kinds_agree.ensures.told w.if-kinds_agree.true)))
             (λ other. so_far.1 (omega (arith, w.agreed-is, same)) j (omega (arith, less, other)))
             (cases_eq j c.loop-k.k)),
         (λ few. omega (arith, w.agreed-is, so_far.2 few)),

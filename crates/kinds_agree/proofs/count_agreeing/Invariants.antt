@@ -6,5 +6,5 @@ use Rattle.kinds_agree.proofs.count_agreeing.Given as goal
 
 abbrev pub invariant-loop-k : goal.invariant-loop-k
 invariant-loop-k l =
-    (l.agreed ≤ l.k) × (l.agreed ≡ l.k → (j : ℕ) → j < l.k → KindsAgreed (formulas_of l.table.draft) (numbered j))
+    (l.agreed ≤ l.k) × (l.agreed ≡ l.k → (j : ℕ) → j < l.k → KindsAgreed l.table (numbered j))
     × (length (formulas_of l.table.draft) ≤ 32 → l.agreed ≡ l.k) × (32 < length (formulas_of l.table.draft) → l.agreed ≡ 0)

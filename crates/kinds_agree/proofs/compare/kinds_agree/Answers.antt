@@ -23,9 +23,11 @@ returns-then-in_strips-clause-exact c =
     let in_strips = c.is_labelled-in_strips.ensures.told both.1 in (
       (λ agreed. (in_strips.short, in_strips.roomy, in_strips.lawful)),
       (λ able.
-          c.same_labels.ensures.found (omega arith) (omega arith) (grind arith)
-          (cells_same _ _ 256 64 (omega arith) (omega arith) _ _ _ _ _ _ _ _ _ _ in_dates in_strips
-          (λ k d less e p lo hi. ap (λ x. dated x.value e p) (get_or-replicate 96 k c.unknown-dated.result d less) ∙ c.unknown-dated.ensures e p lo hi)
-          (λ k d less e p lo hi. ap (λ x. strip x.weak x.strong e p) (get_or-replicate 96 k c.unknown-strips.result d less) ∙ c.unknown-strips.ensures e p lo hi)
-          _ (grind arith) (grind arith))),
+          c.same_labels.ensures.found (omega arith) (omega arith) (
+            grind arith,
+            cells_same _ _ 256 64 (omega arith) (omega arith) _ _ _ _ _ _ _ _ _ _ in_dates in_strips
+                (λ k d less e p lo hi. ap (λ x. dated x.value e p) (get_or-replicate 96 k c.unknown-dated.result d less) ∙ c.unknown-dated.ensures e p lo hi)
+                (λ k d less e p lo hi. ap (λ x. strip x.weak x.strong e p) (get_or-replicate 96 k c.unknown-strips.result d less) ∙ c.unknown-strips.ensures e p lo hi)
+                _ (grind arith) (grind arith),
+          )),
     )

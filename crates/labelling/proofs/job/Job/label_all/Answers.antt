@@ -1,4 +1,4 @@
-use Rattle.std.proofs.Common.{◌≡◌, ◌*◌, ◌<◌, ◌≤◌, ◌++◌, length, get_or, drop, sym, ap, ◌∙◌, subst, arith, length-take-le}
+use Rattle.std.proofs.Common.{◌≡◌, ◌*◌, ◌<◌, ◌≤◌, ◌++◌, length, drop, sym, ap, ◌∙◌, subst, arith, length-take-le}
 use Rattle.std.proofs.Math.Seq.{drop-append_seam}
 use Rattle.std.proofs.lemmas.List.{get_or_append_left}
 use Rattle.logic.specs.States.{state_at}
@@ -31,11 +31,11 @@ returns g c =
       roomy = subst (λ k. (k ≤ length old) × (k ≤ length oldWork)) same c.requires.roomy;
       lawful = subst (λ k. LawfulTo k (state_at xs)) is job.lawful;
       labels = λ f i less one le d.
-          let fits : place n f i < length new = omega (arith, long, row_below f (length table) n less, le, is) in
-          subst (λ k. LabelOf reads reach table xs f i (get_or out (place k f i) d)) is
-          (subst (LabelOf reads reach table xs f i) (sym (get_or_append_left new (drop total old) d (place n f i) fits)) (c.label_rows.ensures.labels f i less one (omega (arith, le, is)) d));
+          let m = length xs in
+          let fits : place m f i < length new = omega (arith, long, same, row_below f (length table) m less, le) in
+          subst (LabelOf reads reach table xs f i) (sym (get_or_append_left new (drop total old) d (place m f i) fits)) (c.label_rows.ensures.labels f i less one le d);
       later = subst (λ k. drop k out ≡ drop k old) same (ap (λ k. drop k out) (sym long) ∙ drop-append_seam new (drop total old));
-      cleared = λ k less d e j lo hi.
+      cleared = λ k d less e j lo hi.
           ap (λ x. reads x e j) (get_or_append_left newWork (drop total oldWork) d k (omega (arith, less, same, long-work)))
           ∙ c.label_rows.ensures.cleared k d (omega (arith, less, same, c.label_rows.auto.work, long-work)) e j lo hi;
       later_work = subst (λ k. drop k outWork ≡ drop k oldWork) same (ap (λ k. drop k outWork) (sym long-work) ∙ drop-append_seam newWork (drop total oldWork));

@@ -1,6 +1,6 @@
 use Rattle.logic.specs.States.{state_at}
 use Rattle.labelling.proofs.Bounds.{ToldTo}
-use Rattle.labelling.proofs.binders.Binder.label_bound.Given as goal
+use Rattle.labelling.proofs.job.Binder.label_bound.Given as goal
 
 abbrev pub invariant-loop-g : goal.invariant-loop-g
 invariant-loop-g g l =

@@ -4,7 +4,7 @@ use Rattle.logic.specs.States.{state_at}
 use Rattle.logic.specs.Logic.{Reads}
 use Rattle.logic.specs.Tables.{tree}
 use Rattle.labelling.proofs.Bounds.{bound_cell, closed_again}
-use Rattle.labelling.proofs.binders.Binder.label_through.Goals as goal
+use Rattle.labelling.proofs.job.Binder.label_through.Goals as goal
 
 pub returns : goal.returns
 returns g c =

@@ -7,8 +7,8 @@ use Rattle.labelling.specs.Tells.{Tells}
 use Rattle.labelling.proofs.Nodes.{row_below}
 use Rattle.labelling.proofs.Places.{row_front, row_own, other_row}
 use Rattle.labelling.proofs.Bounds.{ToldTo, told_start, told_skip, told_turn, parts_told, unbound}
-use Rattle.labelling.proofs.binders.Binder.label_bound.Goals as goal
-use Rattle.labelling.proofs.binders.Binder.label_bound.Goals.{then-wanted, else-wanted}
+use Rattle.labelling.proofs.job.Binder.label_bound.Goals as goal
+use Rattle.labelling.proofs.job.Binder.label_bound.Goals.{then-wanted, else-wanted}
 
 below : (f k : ℕ) (wanted : List Bool) → k < length (take f wanted) → k < f
 below f k wanted h = omega (arith, h, length-take f wanted)

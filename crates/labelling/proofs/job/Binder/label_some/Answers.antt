@@ -8,7 +8,7 @@ use Rattle.labelling.specs.Bound.{Through}
 use Rattle.labelling.proofs.Decisions.{decided_more}
 use Rattle.labelling.proofs.Tellings.{tells_decided}
 use Rattle.labelling.proofs.Bounds.{some_decides}
-use Rattle.labelling.proofs.binders.Binder.label_some.Goals as goal
+use Rattle.labelling.proofs.job.Binder.label_some.Goals as goal
 
 pub loop-p-preserved : goal.loop-p-preserved
 loop-p-preserved g c =

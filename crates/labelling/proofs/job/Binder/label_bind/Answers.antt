@@ -5,7 +5,7 @@ use Rattle.logic.specs.Tables.{tree}
 use Rattle.labelling.proofs.Decisions.{decided_more}
 use Rattle.labelling.proofs.Tellings.{tells_decided}
 use Rattle.labelling.proofs.Bounds.{bound_cell, kept_same, closed_again}
-use Rattle.labelling.proofs.binders.Binder.label_bind.Goals as goal
+use Rattle.labelling.proofs.job.Binder.label_bind.Goals as goal
 
 pub loop-p-preserved : goal.loop-p-preserved
 loop-p-preserved g c =
