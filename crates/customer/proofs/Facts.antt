@@ -19,7 +19,7 @@ use Rattle.records.specs.Growth.{Appended}
 use Rattle.answers.specs.declared.types.Answer.{Answer}
 use Rattle.answers.specs.declared.types.Answer.TheVariants.{Reads, Stands, Counts, Tells}
 use Rattle.answers.specs.declared.types.Call.{Call}
-use Rattle.answers.specs.declared.types.Call.TheVariants.{Append, LabelAt, StandingAt, NoticeOf}
+use Rattle.answers.specs.declared.types.Call.TheVariants.{Append, LabelAt, StandingAt, TallyOf, NoticeOf}
 use Rattle.answers.specs.Tests.{carried_to}
 use Rattle.answers.specs.Answers.{Ground, told, after, accepted}
 use Rattle.answers.specs.Law.{foreign, Ran, Judged, Takes, LabelIs, StandingIs, TallyIs, NoticeIs, HappensAt}
@@ -154,6 +154,7 @@ lasts_so law =
       old_labels = subst (λ ys. LabelIs slots ys 2 4 4 is.Unknown) all_five (law.old_labels cs 2 4 4 is.Unknown unknown_at_four);
       old_standings = subst (λ ys. StandingIs slots ys 0 4 4 Pending) all_five (law.old_standings cs 0 4 4 Pending stands_open);
       old_notices = subst (λ ys. NoticeIs slots ys 4 2 None) all_five (law.old_notices cs 4 2 None tells_no_more);
+      tallies = law.tallies cs 0 tally_four tally_five counts_four (subst (λ ys. TallyIs slots ys 0 tally_five) (sym all_five) counts_five);
     }
 
 refused_so : QueriesRefused slots four → RefusedSo
@@ -212,7 +213,7 @@ unfolding carried_to labels_of label true_from false_from tree tree_to loose
 all_told = refl
 
 pub answers_are : (G : Ground) (start : List State) (calls : List Call) (answers : List (Result Answer Refusal)) (ends : List State) →
-    G ≡ slots → start ≡ [] → calls ≡ tried_calls → length answers ≡ 13 → Ran G start calls answers ends → answers ≡ tried_answers
+    G ≡ slots → start ≡ [] → calls ≡ tried_calls → length answers ≡ 14 → Ran G start calls answers ends → answers ≡ tried_answers
 answers_are G start calls answers ends is-slots empty same long ran =
     let law : Ran slots [] tried_calls answers ends =
     subst (λ cs. Ran slots [] cs answers ends) same
@@ -242,26 +243,33 @@ holds_some xs x (Err e) ys h = rw h.1 (omega (arith, h.0))
 first_standing : CallIs tried_calls 4 (StandingAt 0 3 4)
 first_standing = (omega arith, refl)
 
-later_standing : CallIs tried_calls 9 (StandingAt 0 3 5)
+later_standing : CallIs tried_calls 10 (StandingAt 0 3 5)
 later_standing = (omega arith, refl)
 
 first_label : CallIs tried_calls 5 (LabelAt 2 1 2)
 first_label = (omega arith, refl)
 
-later_label : CallIs tried_calls 10 (LabelAt 2 1 5)
+later_label : CallIs tried_calls 11 (LabelAt 2 1 5)
 later_label = (omega arith, refl)
 
 first_notice : CallIs tried_calls 6 (NoticeOf 4 0)
 first_notice = (omega arith, refl)
 
-later_notice : CallIs tried_calls 11 (NoticeOf 4 0)
+later_notice : CallIs tried_calls 12 (NoticeOf 4 0)
 later_notice = (omega arith, refl)
+
+first_tally : CallIs tried_calls 7 (TallyOf 0)
+first_tally = (omega arith, refl)
+
+later_tally : CallIs tried_calls 13 (TallyOf 0)
+later_tally = (omega arith, refl)
 
 pub kept_so : (calls : List Call) (answers : List (Result Answer Refusal)) → calls ≡ tried_calls → answers ≡ tried_answers → NeverTakenBack calls answers → KeptSo tried_answers
 kept_so calls answers same said law =
     let kept : NeverTakenBack tried_calls tried_answers = subst (λ cs. NeverTakenBack cs tried_answers) same (subst (NeverTakenBack calls) said law) in
     record {
-      standings = kept.standings 4 9 0 3 4 5 (Violated 4) (omega arith) first_standing later_standing (omega arith) (λ e. cc) refl;
-      labels = kept.labels 5 10 2 1 2 5 is.True (omega arith) first_label later_label (omega arith) (λ e. cc) refl;
-      notices = kept.notices 6 11 4 0 (Some lost) (omega arith) first_notice later_notice refl;
+      standings = kept.standings 4 10 0 3 4 5 (Violated 4) (omega arith) first_standing later_standing (omega arith) (λ e. cc) refl;
+      labels = kept.labels 5 11 2 1 2 5 is.True (omega arith) first_label later_label (omega arith) (λ e. cc) refl;
+      notices = kept.notices 6 12 4 0 (Some lost) (omega arith) first_notice later_notice refl;
+      tallies = kept.tallies 7 13 0 tally_four tally_five (omega arith) first_tally later_tally refl refl;
     }

@@ -33,7 +33,11 @@ abbrev pub Lost : Ground → List State → (rule state : ℕ) → Type 0
 Lost G xs r s = (d : ℕ) × ((cs : List Call) → StandingIs G (accepted G xs cs) r s (length (accepted G xs cs)) (Violated d))
 
 module _ {R : Type 0} {G : growing.Ghosts R} {D : readable.Ghosts R} where
+  -- the states of a monitor's record once those of a list were appended in turn
+  abbrev pub states_once : Monitor R G D → (xs : List State) → List State
+  states_once m xs = taken_in (ground_of m) (states_of m) xs
+
   -- answer k is what the last state tells of the expectation, once k + 1 states of the list were appended to the monitor m
   abbrev pub EachTold : Monitor R G D → List State → (rule state : ℕ) → List (Result Answer Refusal) → Type 0
   EachTold m xs r s answers = (k : ℕ) → k < length xs →
-      slice_index_or answers k foreign ≡ told_of (ground_of m) (taken_in (ground_of m) (states_of m) (take (k + 1) xs)) r s
+      slice_index_or answers k foreign ≡ told_of (ground_of m) (states_once m (take (k + 1) xs)) r s

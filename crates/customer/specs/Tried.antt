@@ -58,7 +58,7 @@ is_freed_next = next (signal 1)
 
 abbrev pub tried_calls : List Call
 tried_calls =
-    Append taken ∷ Append freed ∷ Append named ∷ Append taken ∷ StandingAt 0 3 4 ∷ LabelAt 2 1 2 ∷ NoticeOf 4 0
+    Append taken ∷ Append freed ∷ Append named ∷ Append taken ∷ StandingAt 0 3 4 ∷ LabelAt 2 1 2 ∷ NoticeOf 4 0 ∷ TallyOf 0
     ∷ Append named ∷ Append freed ∷ StandingAt 0 3 5 ∷ LabelAt 2 1 5 ∷ NoticeOf 4 0 ∷ TallyOf 0 ∷ []
 
 -- the violation of state 3, and the raising that is told after it at point 4
@@ -82,6 +82,7 @@ tally_five = record { raised = 3; pending = 0; fulfilled = 2; violated = 1 }
 abbrev pub tried_answers : List (Result Answer Refusal)
 tried_answers =
     Ok (Number 1) ∷ Ok (Number 2) ∷ Ok (Number 3) ∷ Ok (Number 4) ∷ Ok (Stands (Violated 4)) ∷ Ok (Reads is.True) ∷ Ok (Tells (Some lost))
+    ∷ Ok (Counts tally_four)
     ∷ Err (refusal.NominalTaken 5) ∷ Ok (Number 5) ∷ Ok (Stands (Violated 4)) ∷ Ok (Reads is.True) ∷ Ok (Tells (Some lost)) ∷ Ok (Counts tally_five) ∷ []
 
 -- over a record that starts with a state, three calls get the refusal of a foreign record
@@ -141,6 +142,7 @@ pub record LastsSo : Type 0 where
   pub old_labels : LabelIs slots five 2 4 4 is.Unknown
   pub old_standings : StandingIs slots five 0 4 4 Pending
   pub old_notices : NoticeIs slots five 4 2 None
+  pub tallies : NoFewer tally_four tally_five
 
 -- What `QueriesRefused` says after the four states: there is no formula 3, no rule 1 and no point 5, and no refusal fits what is answered.
 pub record RefusedSo : Type 0 where
@@ -163,8 +165,10 @@ pub record PromisedSo : Type 0 where
   pub few : length four ≤ 256
   pub roomy : length four ≤ 16
 
--- What `NeverTakenBack` says of the answers: calls 9 to 11, counted from 0, ask again what calls 4 to 6 asked, after one state more.
+-- What `NeverTakenBack` says of the answers: calls 10 to 13, counted from 0, ask again what calls 4 to 7
+-- asked, after one state more.
 pub record KeptSo (answers : List (Result Answer Refusal)) : Type 0 where
-  pub standings : AnswerIs answers 9 (Stands (Violated 4)) ⊎ PointRefused answers 9
-  pub labels : AnswerIs answers 10 (Reads is.True) ⊎ PointRefused answers 10
-  pub notices : AnswerIs answers 11 (Tells (Some lost))
+  pub standings : AnswerIs answers 10 (Stands (Violated 4)) ⊎ PointRefused answers 10
+  pub labels : AnswerIs answers 11 (Reads is.True) ⊎ PointRefused answers 11
+  pub notices : AnswerIs answers 12 (Tells (Some lost))
+  pub tallies : NoFewer tally_four tally_five

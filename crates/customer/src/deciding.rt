@@ -1,7 +1,7 @@
 // From the bytes of a rules text and the states of a log to what is so on every lawful endless trace that begins with them.
 ghost use Rattle.std.specs.Prelude.{◌≡◌, [], length, IfOk, MatchResult};
 ghost use Rattle.customer.specs.Deciding.{Tabled, LastReads, Whether};
-ghost use Rattle.customer.specs.Following.{taken_in};
+ghost use Rattle.customer.specs.Following.{states_once};
 ghost use Rattle.rulestexts.specs.Texts.{Refused};
 ghost use Rattle.customer.specs.declared.deciding.Undecided.TheVariants.{Text};
 ghost use Rattle.monitor.specs.Live.{table_of, states_of, room_of, ground_of, Own};
@@ -38,7 +38,7 @@ fn append_all<R: Growing>(monitor: &mut Monitor<R>, xs: &[State])
     ensures own { Own monitor.old → Own monitor.new }
     ensures table { table_of monitor.new ≡ table_of monitor.old }
     ensures room { room_of monitor.new ≡ room_of monitor.old }
-    ensures states { Own monitor.old → states_of monitor.new ≡ taken_in (ground_of monitor.old) (states_of monitor.old) xs.now }
+    ensures states { Own monitor.old → states_of monitor.new ≡ states_once monitor.old xs.now }
 {
     for x in xs {
         let _ = monitor.append(*x);

@@ -17,7 +17,7 @@ const NAMED: State = State {
     ..TAKEN
 };
 
-const CALLS: usize = 13;
+const CALLS: usize = 14;
 
 // Two states with nominal 7, the second of which is refused; and what is asked before and after the last state.
 fn calls() -> [Call; CALLS]
@@ -31,6 +31,7 @@ fn calls() -> [Call; CALLS]
         Call::StandingAt(RULE, 3, 4),
         Call::LabelAt(CONTENT, 1, 2),
         Call::NoticeOf(4, 0),
+        Call::TallyOf(RULE),
         Call::Append(NAMED),
         Call::Append(FREED),
         Call::StandingAt(RULE, 3, 5),

@@ -16,7 +16,7 @@ returns c =
     let empty : states_of m ≡ [] = ap (λ (l : HalvesRecord). take l.count (l.front ++ l.back)) new.1 ∙ c.new.ensures in
     let own : Own m = new.2 ∙ sym (ap length empty) in
     let stands : ground_of m ≡ slots = ap (λ (t : Table). ground_on t 16) new.0 ∙ over in
-    let long : length c.call_all.new.answers ≡ 13 = omega arith in
+    let long : length c.call_all.new.answers ≡ 14 = omega arith in
     let ran = c.call_all.ensures.ran (omega (arith, ap length c.calls.ensures)) in
     let said = answers_are _ _ _ _ _ over c.new-3.ensures c.calls.ensures long ran in
     record {
