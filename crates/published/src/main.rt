@@ -1,5 +1,5 @@
-// The publication's examples about labels, on a live monitor. Each log is a rules text followed by trace lines; the states are
-// appended one by one, and the labels of some formulas are printed state by state.
+// Worked examples of the paper that defines truncated semantics, on a live monitor. Each log is a rules text followed by trace
+// lines; the states are appended one by one, and the labels of some formulas are printed state by state.
 #![tactic(auto)]
 
 mod asking;
