@@ -1,8 +1,8 @@
 // One expectation, followed from state to state.
-ghost use Rattle.std.specs.Prelude.{◌≡◌, ◌<◌, ◌≤◌, true, false, length, is_ok, IfErr};
+ghost use Rattle.std.specs.Prelude.{◌≡◌, ◌<◌, ◌≤◌, true, false, length, drop, is_ok, IfErr};
 ghost use Rattle.refusals.specs.declared.Refusal.TheVariants.{MemoryTooShort};
-ghost use Rattle.monitor.specs.Live.{states_of, ground_of, Own};
-ghost use Rattle.customer.specs.Following.{EachTold, StaysDecided, Lost};
+ghost use Rattle.monitor.specs.Live.{table_of, states_of, room_of, ground_of, Own};
+ghost use Rattle.customer.specs.Following.{states_once, EachTold, StaysDecided, Lost};
 
 use answers::types::{Answer, Call};
 use expectations::types::Standing;
@@ -25,6 +25,10 @@ pub fn follow<R: Growing>(
     ensures refused { IfErr result (λ why. (why ≡ MemoryTooShort) × (length told.old < length xs.now)) }
     ensures same { is_ok result ≡ false → (monitor.new ≡ monitor.old) × (told.new ≡ told.old) }
     ensures own { Own monitor.old → Own monitor.new }
+    ensures table { table_of monitor.new ≡ table_of monitor.old }
+    ensures room { room_of monitor.new ≡ room_of monitor.old }
+    ensures states { is_ok result ≡ true → Own monitor.old → states_of monitor.new ≡ states_once monitor.old xs.now }
+    ensures later { drop (length xs.now) told.new ≡ drop (length xs.now) told.old }
     ensures each { is_ok result ≡ true → Own monitor.old → EachTold monitor.old xs.now rule state told.new }
     ensures for_good { is_ok result ≡ true → Own monitor.old → StaysDecided (length xs.now) told.new }
 {

@@ -1,4 +1,5 @@
 use Rattle.std.proofs.Common.{◌≡◌, ◌+◌, ◌<◌, ◌≢◌, length, get_or, take, map, sym, ap, ap₂, ◌∙◌, below_more, arith, get_or-set_same, get_or-set_other}
+use Rattle.std.proofs.lemmas.List.{drop-set-lt}
 use Rattle.logic.specs.States.{blank}
 use Rattle.answers.specs.declared.types.Call.TheVariants.{Append, StandingAt}
 use Rattle.answers.specs.Answers.{after, told}
@@ -28,6 +29,7 @@ loop-k-preserved g c =
       own = λ o. a.own (inv.own o);
       table = a.table ∙ inv.table;
       room = a.room ∙ inv.room;
+      later = drop-set-lt (length xs) c.loop-k.told k c.ask.result (omega arith) ∙ inv.later;
       states = λ o.
           a.states ∙ own_after (count_of m) (ground_of m) (states_of m) (Append x) (inv.own o)
           ∙ ap₂ (λ H ws. after H ws (Append x)) same (inv.states o) ∙ sym (taken_more G (states_of start) xs k blank c.loop-k-test.true);
