@@ -25,7 +25,7 @@ uses K text v used t =
     (omega (arith, e, length-drop used text, t.within), t.within)
 
 -- all that follows a place
-pub rest_part : (text : List ℕ) (at : ℕ) → take (length text - at) (drop at text) ≡ drop at text
+pub rest_part : {A : Type 0} (text : List A) (at : ℕ) → take (length text - at) (drop at text) ≡ drop at text
 rest_part text at = take_all (length text - at) (drop at text) (omega (arith, length-drop at text))
 
 pub own_refusal : (own : ℕ) (G : Ground) (xs : List State) (call : Call) → own ≡ length xs → refused_by own G xs call ≡ refusal_of G xs call

@@ -15,9 +15,9 @@ OneOutput = (input : List ℕ) (lines : List Line) → Watched input lines → O
 abbrev pub BeginWith : (lines first : List Line) → Type 0
 BeginWith lines first = (rest : List Line) × (lines ≡ first ++ rest)
 
--- Nothing printed is taken back but the last line: every input of at most 32768 bytes that goes on from this one prints first
--- of all the same lines up to the last one, which is the end line of an input that was taken whole.
-abbrev pub GoesOn : (input : List ℕ) → List Line → Type 0
-GoesOn input lines =
+-- Of what is printed nothing but the last line is taken back: the lines up to the last one are the first lines of every input of
+-- at most 32768 bytes that goes on from this one.
+abbrev pub PrintsFirst : (input : List ℕ) → List Line → Type 0
+PrintsFirst input lines =
     (before : List Line) (last : Line) → lines ≡ before ++ last ∷ [] → (more : List ℕ) (other : List Line)
     → length (input ++ more) ≤ 32768 → Watched (input ++ more) other → BeginWith other before

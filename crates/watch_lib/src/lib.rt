@@ -2,6 +2,7 @@
 #![tactic(auto)]
 
 mod ends;
+pub mod following;
 pub mod lines;
 mod points;
 pub mod program;

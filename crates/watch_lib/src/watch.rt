@@ -1,6 +1,6 @@
 // From an input to the lines of output.
 ghost use Rattle.std.specs.Prelude.{◌≡◌, ◌≤◌, [], ◌∷◌, length, IfOk};
-ghost use Rattle.watch_lib.specs.Laws.{GoesOn, Only};
+ghost use Rattle.watch_lib.specs.Laws.{Only, PrintsFirst};
 ghost use Rattle.watch_lib.specs.Watched.{TracedAfter, Watched};
 
 use crate::lines::Line;
@@ -58,11 +58,11 @@ fn watch_input(heap: Global, input: &[u8]) -> Result<Vec<Line>, AllocError>
 }
 
 // The lines that are printed of an input: a rules text and trace lines.
-#[tactic(auto, using(crate::proofs::Unique::one_output, crate::proofs::GoingOn::goes_on_lem))]
+#[tactic(auto, using(crate::proofs::Unique::one_output, crate::proofs::GoingOn::prints_first))]
 pub fn watch(heap: Global, input: &[u8]) -> Result<Vec<Line>, AllocError>
     ensures lines { IfOk result (λ v. Watched input.now v.items) }
     ensures only { IfOk result (λ v. Only input.now v.items) }
-    ensures goes_on { IfOk result (λ v. GoesOn input.now v.items) }
+    ensures first { IfOk result (λ v. PrintsFirst input.now v.items) }
 {
     if input.len() > MOST_BYTES {
         return only(heap, Line::refused(Refusal::MemoryTooShort, 0));

@@ -1,8 +1,9 @@
 // Lines of output as text.
 ghost use Rattle.std.specs.Prelude.{◌≡◌, IfOk, Some, string_bytes};
 ghost use Rattle.watch_lib.specs.Lines.{line_text, lines_text};
-ghost use Rattle.watch_lib.specs.Printed.{Printed, TextGoesOn};
+ghost use Rattle.watch_lib.specs.Printed.{Printed, PrintedOn};
 
+use crate::following::watch_on;
 use crate::lines::Line;
 use crate::watch::watch;
 use std::alloc::{AllocError, Global};
@@ -33,9 +34,16 @@ fn joined(heap: Global, lines: &[Line]) -> Result<String, AllocError>
 
 // What is printed of an input, as one text.
 pub fn output_of(heap: Global, input: &[u8]) -> Result<String, AllocError>
-    ensures printed { IfOk result (λ s. Printed input.now (string_bytes s)) }
-    ensures goes_on { IfOk result (λ s. TextGoesOn input.now (string_bytes s)) }
+    ensures { IfOk result (λ s. Printed input.now (string_bytes s)) }
 {
     let lines = watch(heap, input)?;
+    joined(heap, lines.as_slice())
+}
+
+// What is new of an input whose first bytes were printed before, as one text.
+pub fn output_on(heap: Global, input: &[u8], seen: usize) -> Result<String, AllocError>
+    ensures { IfOk result (λ s. PrintedOn input.now seen (string_bytes s)) }
+{
+    let lines = watch_on(heap, input, seen)?;
     joined(heap, lines.as_slice())
 }
