@@ -126,6 +126,8 @@ pub fn run<K: LabelKind + Copy, R: Growing>(
     ensures empty { length (R.Readable.states log) ≡ 0 → FromEmpty result.monitor }
     ensures unlabelled { TooLittle calls.now answers.old → result.labelled ≡ Err MemoryTooShort }
     ensures unwritten { TooLittle calls.now answers.old → (labels.new ≡ labels.old) × (work.new ≡ work.old) }
+    ensures declined { 0 < length (R.Readable.states log) → Enough calls.now answers.old → result.labelled ≡ Err ForeignRecord }
+    ensures untouched { 0 < length (R.Readable.states log) → (labels.new ≡ labels.old) × (work.new ≡ work.old) }
     ensures whole { Enough calls.now answers.old →
         RecordLabelled K.reads K.reach result.monitor labels.old work.old result.labelled labels.new work.new }
     ensures enough { Enough calls.now answers.old → Own result.monitor →
