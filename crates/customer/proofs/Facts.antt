@@ -117,9 +117,9 @@ judged_so early law =
       standings_stay = law.standings_stay freed takes_freed 0 4 4 (omega arith) (omega arith) (omega arith) ∙ stands_open;
       standings_last = law.standings_last freed takes_freed 0 3 4 (Violated 4) stands_lost (λ e. cc);
       notices_stay = law.notices_stay freed takes_freed 4 0 (omega arith) (omega arith) ∙ tells_lost;
-      tallies_sum = law.tallies_sum 0 tally_four counts_four;
+      tallies_sum = λ left h. let e = law.tallies_sum 0 (record { raised = 3; pending = left; fulfilled = 1; violated = 1 }) h in omega (arith, e);
       tallies_told = let n = law.tallies_told 0 tally_four counts_four in (sym n.0, sym n.1, sym n.2);
-      tallies_grow = law.tallies_grow freed takes_freed 0 tally_four tally_five counts_four counts_five;
+      tallies_grow = λ t h. law.tallies_grow freed takes_freed 0 tally_four t counts_four h;
       notices_once = (law.notices_once lost 4 (omega arith) (omega arith)).0 (law.notices_happen 4 0 lost tells_lost);
       notices_never = (law.notices_once not_lost 4 (omega arith) (omega arith)).1 happens_not;
       notices_happen = law.notices_happen 4 0 lost tells_lost;
@@ -154,7 +154,7 @@ lasts_so law =
       old_labels = subst (λ ys. LabelIs slots ys 2 4 4 is.Unknown) all_five (law.old_labels cs 2 4 4 is.Unknown unknown_at_four);
       old_standings = subst (λ ys. StandingIs slots ys 0 4 4 Pending) all_five (law.old_standings cs 0 4 4 Pending stands_open);
       old_notices = subst (λ ys. NoticeIs slots ys 4 2 None) all_five (law.old_notices cs 4 2 None tells_no_more);
-      tallies = law.tallies cs 0 tally_four tally_five counts_four (subst (λ ys. TallyIs slots ys 0 tally_five) (sym all_five) counts_five);
+      tallies = λ t h. law.tallies cs 0 tally_four t counts_four (subst (λ ys. TallyIs slots ys 0 t) (sym all_five) h);
     }
 
 refused_so : QueriesRefused slots four → RefusedSo
@@ -271,5 +271,5 @@ kept_so calls answers same said law =
       standings = kept.standings 4 10 0 3 4 5 (Violated 4) (omega arith) first_standing later_standing (omega arith) (λ e. cc) refl;
       labels = kept.labels 5 11 2 1 2 5 is.True (omega arith) first_label later_label (omega arith) (λ e. cc) refl;
       notices = kept.notices 6 12 4 0 (Some lost) (omega arith) first_notice later_notice refl;
-      tallies = kept.tallies 7 13 0 tally_four tally_five (omega arith) first_tally later_tally refl refl;
+      tallies = λ t e. kept.tallies 7 13 0 tally_four t (omega arith) first_tally later_tally refl e;
     }

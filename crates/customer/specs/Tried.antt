@@ -1,5 +1,5 @@
 -- A small log over a record in two arrays, and what the law of a monitor says of it: one fact from each of its clauses.
-use Rattle.std.specs.Prelude.{◌≡◌, ℕ, ◌+◌, ◌<◌, ◌≤◌, ◌⊎◌, List, [], ◌∷◌, length, Some, None, Ok, Err, Result}
+use Rattle.std.specs.Prelude.{◌≡◌, ℕ, ◌<◌, ◌≤◌, ◌⊎◌, List, [], ◌∷◌, length, Some, None, Ok, Err, Result}
 use Rattle.logic.specs.declared.types.State.{State}
 use Rattle.logic.specs.States.{Trace, Begins, no_reference}
 use Rattle.logic.specs.Lawful.{Lawful, LawfulRecord}
@@ -21,7 +21,7 @@ use Rattle.answers.specs.declared.types.Answer.TheVariants.{Number, Reads, Stand
 use Rattle.answers.specs.declared.types.Call.{Call}
 use Rattle.answers.specs.declared.types.Call.TheVariants.{Append, LabelAt, StandingAt, TallyOf, NoticeOf}
 use Rattle.answers.specs.Answers.{Ground}
-use Rattle.answers.specs.Law.{foreign, Takes, LabelIs, StandingIs, NoticeIs, ToldOnce, NeverTold, HappensAt}
+use Rattle.answers.specs.Law.{foreign, Takes, LabelIs, StandingIs, TallyIs, NoticeIs, ToldOnce, NeverTold, HappensAt}
 use Rattle.answers.specs.Lasting.{AnswerIs, PointRefused}
 use Rattle.answers.specs.Refused.{LabelRefused, StandingRefused, TallyRefused, NoticeRefused}
 use Rattle.monitor.specs.Book.{ground}
@@ -111,11 +111,12 @@ pub record JudgedSo : Type 0 where
   -- point 4 tells the violation after state 5 too
   pub notices_stay : NoticeIs slots five 4 0 (Some lost)
   -- of three expectations one is open, one fulfilled and one violated
-  pub tallies_sum : tally_four.raised ≡ tally_four.pending + (tally_four.fulfilled + tally_four.violated)
+  pub tallies_sum : (left : ℕ) → TallyIs slots four 0 (record { raised = 3; pending = left; fulfilled = 1; violated = 1 }) → left ≡ 1
   -- three raisings, one fulfilment and one violation were told
   pub tallies_told : (times_told (slots.labelled four) slots.rules 4 0 Raising ≡ 3)
       × (times_told (slots.labelled four) slots.rules 4 0 Fulfilling ≡ 1) × (times_told (slots.labelled four) slots.rules 4 0 Violating ≡ 1)
-  pub tallies_grow : NoFewer tally_four tally_five
+  -- and a tally after state 5 counts no fewer
+  pub tallies_grow : (t : Tally) → TallyIs slots five 0 t → NoFewer tally_four t
   -- the violation of state 3 is told once at point 4, and a violation of state 1 never
   pub notices_once : ToldOnce slots four lost 4
   pub notices_never : NeverTold slots four not_lost 4
@@ -142,7 +143,7 @@ pub record LastsSo : Type 0 where
   pub old_labels : LabelIs slots five 2 4 4 is.Unknown
   pub old_standings : StandingIs slots five 0 4 4 Pending
   pub old_notices : NoticeIs slots five 4 2 None
-  pub tallies : NoFewer tally_four tally_five
+  pub tallies : (t : Tally) → TallyIs slots five 0 t → NoFewer tally_four t
 
 -- What `QueriesRefused` says after the four states: there is no formula 3, no rule 1 and no point 5, and no refusal fits what is answered.
 pub record RefusedSo : Type 0 where
@@ -171,4 +172,4 @@ pub record KeptSo (answers : List (Result Answer Refusal)) : Type 0 where
   pub standings : AnswerIs answers 10 (Stands (Violated 4)) ⊎ PointRefused answers 10
   pub labels : AnswerIs answers 11 (Reads is.True) ⊎ PointRefused answers 11
   pub notices : AnswerIs answers 12 (Tells (Some lost))
-  pub tallies : NoFewer tally_four tally_five
+  pub tallies : (t : Tally) → AnswerIs answers 13 (Counts t) → NoFewer tally_four t

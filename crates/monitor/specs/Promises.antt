@@ -1,9 +1,6 @@
 -- The law of a live monitor.
-use Rattle.std.specs.Prelude.{◌≡◌, ℕ, ◌≤◌, List, length}
-use Rattle.logic.specs.declared.types.Formula.{Formula}
-use Rattle.logic.specs.declared.types.Rule.{Rule}
+use Rattle.std.specs.Prelude.{◌≡◌, ◌≤◌, List, length}
 use Rattle.logic.specs.declared.types.State.{State}
-use Rattle.logic.specs.Lawful.{LawfulRecord}
 use Rattle.records.specs.declared.growing.Growing as growing
 use Rattle.records.specs.declared.readable.Readable as readable
 use Rattle.answers.specs.declared.types.Call.{Call}
@@ -12,7 +9,6 @@ use Rattle.answers.specs.Law.{Judged}
 use Rattle.answers.specs.Lasting.{Lasts}
 use Rattle.answers.specs.Refused.{QueriesRefused}
 use Rattle.monitor.specs.Live.{states_of, ground_of, reply_of, states_after}
-use Rattle.monitor.specs.Book.{ground}
 use Rattle.monitor.specs.Meant.{Meant, GoesOn}
 use Rattle.monitor.specs.declared.live.Monitor.{Monitor}
 
@@ -27,11 +23,6 @@ pub record Promised (G : Ground) (xs : List State) : Type 0 where
   pub goes_on : GoesOn xs
   pub few : length xs ≤ 256
   pub roomy : length xs ≤ G.capacity
-
--- So much is promised of the answers after any lawful states, of which there are at most 256 and no more than there is room for.
-abbrev pub AnswersPromised : Type 0
-AnswersPromised = (formulas : List Formula) (rules : List Rule) (room : ℕ) (xs : List State) → LawfulRecord xs → length xs ≤ 256 → length xs ≤ room →
-    Promised (ground formulas rules room) xs
 
 module _ {R : Type 0} {G : growing.Ghosts R} {D : readable.Ghosts R} where
   -- What a monitor promises whose record is its own: it answers each call as is told after the states of its record, and a call leaves

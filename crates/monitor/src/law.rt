@@ -1,6 +1,6 @@
 // The law of a live monitor.
 ghost use Rattle.monitor.specs.Live.{Own};
-ghost use Rattle.monitor.specs.Promises.{Promises, AnswersPromised};
+ghost use Rattle.monitor.specs.Promises.{Promises};
 
 use crate::live::Monitor;
 use records::growing::Growing;
@@ -12,8 +12,3 @@ impl<R: Growing> Monitor<R> {
         ensures { Own self.now → Promises self.now }
     {}
 }
-
-// The law of the answers after any lawful states.
-pub fn answers_are_promised()
-    ensures { AnswersPromised }
-{}

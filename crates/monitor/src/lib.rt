@@ -4,6 +4,6 @@
 pub mod book;
 pub mod calls;
 mod following;
-pub mod law;
+mod law;
 pub mod live;
 mod reading;

@@ -215,6 +215,7 @@ module _ (three : Promised slots (log_to 3)) (four : Promised slots (log_to 4)) 
     old_labels = λ cs. four.lasts.old_labels cs 4 3 3 is.Unknown unknown_before_4;
     old_standings = λ cs. four.lasts.old_standings cs 0 3 3 Pending open_before_4;
     old_notices = λ cs. four.lasts.old_notices cs 4 0 (Some violation) violation_at_4;
+    tallies = λ cs t h. four.lasts.tallies cs 0 (record { raised = 3; pending = 1; fulfilled = 1; violated = 1 }) t tally_at_4 h;
   }
 
   refusing : LogQueries

@@ -19,13 +19,14 @@ use Rattle.answers.specs.declared.types.Call.{Call}
 use Rattle.answers.specs.declared.types.Call.TheVariants.{Append}
 use Rattle.answers.specs.Tests.{carried_to}
 use Rattle.answers.specs.Answers.{Ground, told, after, accepted}
-use Rattle.answers.specs.Law.{foreign, Ran, Judged}
+use Rattle.answers.specs.Law.{foreign, LabelIs, Ran, Judged}
 use Rattle.answers.specs.Lasting.{NeverTakenBack}
 use Rattle.refusals.specs.declared.Refusal.{Refusal}
 use Rattle.monitor.specs.Book.{ground}
 use Rattle.monitor.specs.Meant.{GoesOn}
-use Rattle.slots.specs.Slots.{slot_formulas, slot_rule, double_free_log}
-use Rattle.slots.specs.ForGood.{slot_calls, slot_answers, slot_content, violation, ForGood, NoneTakenBack}
+use Rattle.monitor.specs.Promises.{Promised}
+use Rattle.slots.specs.Slots.{slot_formulas, slot_rule, shown, double_free_log}
+use Rattle.slots.specs.ForGood.{slot_calls, slot_answers, slot_content, slot_tally, violation, ForGood, NoneTakenBack}
 use Rattle.slots.specs.Instances.{slots}
 use Rattle.slots.proofs.Instances.{content_is, true_in_log, false_in_log}
 
@@ -68,8 +69,22 @@ as_expected G start calls answers ends is-slots empty same long ran =
       own.0 ∙ all_accepted,
     )
 
-pub lasts_for_good : (G : Ground) (ends : List State) → G ≡ slots → ends ≡ double_free_log → Judged G ends → GoesOn ends → ForGood
-lasts_for_good G ends is-slots same law on =
+-- the first two states of the log, and what the answers after them promise
+abbrev first_two : List Call
+first_two = Append (shown 0) ∷ Append (shown 1) ∷ []
+
+two_accepted : accepted slots [] first_two ≡ shown 0 ∷ shown 1 ∷ []
+unfolding carried_to
+two_accepted = refl
+
+true_after_two : LabelIs slots (shown 0 ∷ shown 1 ∷ []) 4 1 2 is.True
+unfolding labels_of label until_from true_from false_from tree tree_to loose
+true_after_two = refl
+
+pub lasts_for_good : (G : Ground) (ends : List State) → G ≡ slots → ends ≡ double_free_log → Judged G ends → GoesOn ends →
+    ((cs : List Call) → Promised G (accepted G [] cs)) → ForGood
+lasts_for_good G ends is-slots same law on beginnings =
+    let two : Promised slots (shown 0 ∷ shown 1 ∷ []) = subst (Promised slots) two_accepted (subst (λ H. Promised H (accepted H [] first_two)) is-slots (beginnings first_two)) in
     let judged : Judged slots double_free_log = subst (Judged slots) same (subst (λ H. Judged H ends) is-slots law) in
     let so : (u : Trace) → Lawful u → Begins double_free_log u → (v : ℕ) → Holds u v 1 slot_content = λ u lu b v.
     subst (Holds u v 1) content_is (judged.true_is_so 4 1 2 true_in_log u lu b v) in
@@ -81,6 +96,7 @@ lasts_for_good G ends is-slots same law on =
       content_false = not_so;
       freed = λ u lu b. so u lu b 0;
       never_freed = λ u lu b h. not_so u lu b 0 h;
+      freed_soon = λ u lu b. subst (Holds u 0 1) content_is (two.judged.true_is_so 4 1 2 true_after_two u lu b 0);
     }
 
 -- ── None of the answers is taken back ──
@@ -91,6 +107,7 @@ none_taken_back calls answers same answered law =
       standings = λ k d later point is_call. never.standings 6 k 0 3 4 d (Violated 4) later (omega arith, refl) is_call point (λ e. grind (rules, e)) refl;
       labels = λ k d later point is_call. never.labels 4 k 4 3 4 d is.False later (omega arith, refl) is_call point (λ e. grind (rules, e)) refl;
       notices = λ k later is_call. never.notices 5 k 4 0 (Some violation) later (omega arith, refl) is_call refl;
+      tallies = λ k t later is_call e. never.tallies 12 k 0 slot_tally t later (omega arith, refl) is_call refl e;
     }
 
 -- ── Over a record that holds a state beforehand ──

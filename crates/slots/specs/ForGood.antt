@@ -10,6 +10,7 @@ use Rattle.expectations.specs.declared.types.Standing.TheVariants.{Violated}
 use Rattle.expectations.specs.declared.types.Tally.{Tally}
 use Rattle.expectations.specs.declared.types.Verdict.TheVariants as is
 use Rattle.expectations.specs.declared.types.Event.TheVariants.{Raising, Violating}
+use Rattle.expectations.specs.Counted.{NoFewer}
 use Rattle.logic.specs.Lawful.{Lawful}
 use Rattle.logic.specs.Logic.{Tree, signal, not', next, until, Shows, Holds}
 use Rattle.logic.specs.States.{Trace, Begins}
@@ -61,6 +62,8 @@ pub record ForGood : Type 0 where
   pub content_false : (u : Trace) → Lawful u → Begins double_free_log u → (v : ℕ) → Holds u v 3 slot_content → ⊥
   pub freed : (u : Trace) → Lawful u → Begins double_free_log u → FreedInTime u 1
   pub never_freed : (u : Trace) → Lawful u → Begins double_free_log u → FreedInTime u 3 → ⊥
+  -- that the slot of state 1 is freed in time is known after two states already: it is so on all traces that begin with these
+  pub freed_soon : (u : Trace) → Lawful u → Begins (shown 0 ∷ shown 1 ∷ []) u → FreedInTime u 1
 
 -- call k of the list was answered so, or refused for its point
 abbrev pub ToldOrRefused : (k : ℕ) → Answer → Type 0
@@ -74,3 +77,5 @@ pub record NoneTakenBack : Type 0 where
   pub labels : (k d : ℕ) → 4 ≤ k → 4 ≤ d → CallIs slot_calls k (LabelAt 4 3 d) → ToldOrRefused k (Reads is.False)
   -- each later ask for the first notice of point 4 tells the violation
   pub notices : (k : ℕ) → 5 ≤ k → CallIs slot_calls k (NoticeOf 4 0) → AnswerIs slot_answers k (Tells (Some violation))
+  -- each later ask for the tally counts no fewer as raised, fulfilled and violated
+  pub tallies : (k : ℕ) (t : Tally) → 12 ≤ k → CallIs slot_calls k (TallyOf 0) → AnswerIs slot_answers k (Counts t) → NoFewer slot_tally t

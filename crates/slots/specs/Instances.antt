@@ -130,6 +130,8 @@ pub record LogLasts : Type 0 where
   pub old_labels : (cs : List Call) → LabelIs slots (then_accepted cs) 4 3 3 is.Unknown
   pub old_standings : (cs : List Call) → StandingIs slots (then_accepted cs) 0 3 3 Pending
   pub old_notices : (cs : List Call) → NoticeIs slots (then_accepted cs) 4 0 (Some violation)
+  -- of the three raised, one fulfilled and one violated none is ever lost
+  pub tallies : (cs : List Call) (t : Tally) → TallyIs slots (then_accepted cs) 0 t → (3 ≤ t.raised) × (1 ≤ t.fulfilled) × (1 ≤ t.violated)
 
 -- ── Why queries are refused (`QueriesRefused`) ──
 pub record LogQueries : Type 0 where

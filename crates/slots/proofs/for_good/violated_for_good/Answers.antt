@@ -12,9 +12,10 @@ returns c =
     let long : length c.call_all.new.answers ≡ 17 = omega arith in
     let slots = slots_are _ _ _ table.0 table.1 new.room in
     let said = as_expected _ _ _ _ _ slots new.empty calls long (calling.ran (omega (arith, ap length calls))) in
-    let now = (calling.empty (ap length new.empty)).promises.now in
+    let empty = calling.empty (ap length new.empty) in
+    let now = empty.promises.now in
     record {
       told = ap Ok said.0;
-      lasts = lasts_for_good _ _ (ap₂ ground_on calling.made.0 calling.made.1 ∙ slots) said.1 now.judged now.goes_on;
+      lasts = lasts_for_good _ _ (ap₂ ground_on calling.made.0 calling.made.1 ∙ slots) said.1 now.judged now.goes_on empty.beginnings;
       none_taken_back = none_taken_back _ _ calls said.0 (calling.for_good (omega (arith, ap length calls)));
     }

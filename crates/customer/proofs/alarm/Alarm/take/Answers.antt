@@ -3,8 +3,8 @@ use Rattle.std.proofs.lemmas.Bool.{ltb-true, lt-ltb}
 use Rattle.answers.specs.declared.types.Call.TheVariants.{Append}
 use Rattle.answers.specs.declared.types.Answer.TheVariants.{Number}
 use Rattle.monitor.specs.Book.{ground_on}
-use Rattle.monitor.specs.Live.{states_of, count_of, ground_of, tally_at}
-use Rattle.customer.proofs.Steps.{tally, own_after, stays_violated}
+use Rattle.monitor.specs.Live.{states_of, ground_of, tally_at}
+use Rattle.customer.proofs.Steps.{tally, stays_violated}
 use Rattle.customer.proofs.alarm.Alarm.take.Goals as goal
 
 pub returns-clause-lasting : goal.returns-clause-lasting
@@ -20,5 +20,5 @@ returns-clause-lasting g c on =
     let was : 0 < (tally (ground_of m) (states_of m) s.rule).violated = ltb-true 0 _ (sym s.rings ∙ on) in
     let is : 0 < (tally (ground_of m) (states_of m1) s.rule).violated =
     stays_violated (ground_of m) (states_of m) (states_of m1) x s.rule (Number c.in_ok-n.n) promises.now.judged s.named
-    (sym (promises.replies (Append x)) ∙ sym a.told) (a.states ∙ own_after (count_of m) (ground_of m) (states_of m) (Append x) s.own) was in
+    (sym (promises.replies (Append x)) ∙ sym a.told) (a.states ∙ promises.grows (Append x)) was in
     ap (nat_lt 0) (counted ∙ ap (λ G. (tally G (states_of m1) s.rule).violated) same) ∙ lt-ltb 0 _ is
