@@ -61,13 +61,14 @@ fn print_for_good(rt: &HostRuntime) -> io::Result<()> {
     }
 }
 
-// Tells what is told over a record that holds a state beforehand: nothing, since each call is refused.
+// Tells what is answered over a record that holds a state beforehand: each call is refused.
 fn print_over_another(rt: &HostRuntime) -> io::Result<()> {
     match refused_over_another() {
         Ok(answers) => {
             for answer in answers {
-                if let Ok(answer) = answer {
-                    println!(rt; "{answer}")?;
+                match answer {
+                    Ok(answer) => println!(rt; "{answer}")?,
+                    Err(refusal) => println!(rt; "refused={}", refusal.number())?,
                 }
             }
             Ok(())
@@ -88,6 +89,7 @@ fn main(rt: HostRuntime) -> io::Result<()> {
     ended(&rt, story(&rt, table, TableRecord::new(&mut rows), &log))?;
     println!(rt; "record=changes")?;
     ended(&rt, story(&rt, table, ChangeRecord::new(), &log))?;
+    println!(rt; "record=held")?;
     print_over_another(&rt)?;
     print_for_good(&rt)
 }
