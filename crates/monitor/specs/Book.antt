@@ -90,6 +90,10 @@ pub record Right (xs : List State) (b : Book) : Type 0 where
 abbrev pub Follows : List State → Book → Type 0
 Follows xs b = (b.count ≡ length xs) × Right xs b
 
+-- it does if they are lawful, and at most 256
+abbrev pub FollowsLawful : List State → Book → Type 0
+FollowsLawful xs b = LawfulRecord xs → length xs ≤ 256 → Follows xs b
+
 -- while the record's count is the monitor's, the memory is right of the record's states
 abbrev pub Faithful : List State → Book → Type 0
 Faithful xs b = b.count ≡ length xs → Right xs b

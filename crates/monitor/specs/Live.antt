@@ -7,6 +7,7 @@ use Rattle.logic.specs.Tables.{no_rule}
 use Rattle.records.specs.declared.growing.Growing as growing
 use Rattle.records.specs.declared.readable.Readable as readable
 use Rattle.refusals.specs.declared.Refusal.{Refusal}
+use Rattle.refusals.specs.declared.Refusal.TheVariants as refusal
 use Rattle.table.specs.declared.finished.Table.{Table}
 use Rattle.expectations.specs.declared.types.Verdict.{Verdict}
 use Rattle.expectations.specs.declared.types.Standing.{Standing}
@@ -56,6 +57,11 @@ module _ {R : Type 0} {G : growing.Ghosts R} {D : readable.Ghosts R} where
   -- its record is its own: it has labelled each of the record's states
   abbrev pub Own : Monitor R G D → Type 0
   Own m = count_of m ≡ length (states_of m)
+
+  -- the count of states, if its record is its own, or the refusal of a record that is not
+  abbrev pub CountsOwn : Monitor R G D → Result ℕ Refusal → Type 0
+  CountsOwn m result =
+      MatchResult result (λ n. (n ≡ length (states_of m)) × Own m) (λ why. (why ≡ refusal.ForeignRecord) × (Own m → ⊥))
 
   -- it is new, over this table and this record: it has labelled no state
   abbrev pub IsNew : Table → R → Monitor R G D → Type 0

@@ -14,7 +14,7 @@ use Rattle.growth.specs.Laws.{read_as}
 use Rattle.answers.specs.declared.types.Call.TheVariants.{LabelAt}
 use Rattle.answers.specs.declared.types.Answer.TheVariants.{Reads}
 use Rattle.answers.specs.Answers.{Ground, told}
-use Rattle.monitor.specs.Live.{table_of, states_of, count_of}
+use Rattle.monitor.specs.Live.{table_of, states_of, count_of, Own}
 use Rattle.monitor.specs.declared.live.Monitor.{Monitor}
 
 -- why it is declined: the record's count is not the monitor's, or as whole labelling declines the record
@@ -39,6 +39,10 @@ module _ {R : Type 0} {G : growing.Ghosts R} {D : readable.Ghosts R} where
   abbrev pub Suffices : {K : Type 0} → (reach : ℕ) → Monitor R G D → (labels work : List K) → Type 0
   Suffices reach m labels work =
       Short (length (states_of m)) reach × Roomy (length (formulas_in (table_of m)) * length (states_of m)) (length labels) (length work)
+
+  -- where its record is its own, and kind and memory suffice, whole labelling answers how many states there are
+  abbrev pub AnsweredIfEnough : {K : Type 0} → (reach : ℕ) → Monitor R G D → (labels work : List K) → Result ℕ Refusal → Type 0
+  AnsweredIfEnough reach m labels work result = Own m → Suffices reach m labels work → result ≡ Ok (length (states_of m))
 
 -- every verdict that a monitor gives is read in the cells too, at its point: true where both readings hold, false where
 -- neither does, unknown where only the weak one does

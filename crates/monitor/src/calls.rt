@@ -5,8 +5,8 @@ ghost use Rattle.answers.specs.declared.types.Answer.TheVariants.{Number, Reads,
 ghost use Rattle.answers.specs.declared.types.Call.TheVariants.{Append, LabelAt, StandingAt, TallyOf, NoticeOf};
 ghost use Rattle.answers.specs.Answers.{as_answer};
 ghost use Rattle.monitor.specs.Book.{IsClosed, NotClosed, IsRule, NoRule};
-ghost use Rattle.monitor.specs.Live.{table_of, states_of, room_of, ground_of, Own, Admits, IsNew, label_answer, standing_answer, tally_answer, notice_answer, append_answer, reply_of, states_after};
-ghost use Rattle.monitor.specs.Whole.{Suffices, RecordLabelled, Agrees};
+ghost use Rattle.monitor.specs.Live.{table_of, states_of, room_of, ground_of, Own, CountsOwn, Admits, IsNew, label_answer, standing_answer, tally_answer, notice_answer, append_answer, reply_of, states_after};
+ghost use Rattle.monitor.specs.Whole.{RecordLabelled, AnsweredIfEnough, Agrees};
 
 use crate::book::Book;
 use crate::live::Monitor;
@@ -71,8 +71,7 @@ impl<R: Growing> Monitor<R> {
 
     // How many states there are, if the record's count is the monitor's.
     fn own_count(&self) -> Result<usize, Refusal>
-        ensures { MatchResult result (λ n. (n ≡ length (states_of self.now)) × Own self.now)
-            (λ why. (why ≡ ForeignRecord) × (Own self.now → ⊥)) }
+        ensures { CountsOwn self.now result }
     {
         let n = self.log.count();
         if n == self.book.count {
@@ -200,8 +199,7 @@ impl<R: Growing> Monitor<R> {
     ) -> Result<usize, Refusal>
         ensures foreign { (Own self.now → ⊥) → result ≡ Err ForeignRecord }
         ensures whole { RecordLabelled K.reads K.reach self.now labels.old work.old result labels.new work.new }
-        ensures enough { Own self.now → Suffices K.reach self.now labels.old work.old →
-            result ≡ Ok (length (states_of self.now)) }
+        ensures enough { AnsweredIfEnough K.reach self.now labels.old work.old result }
         ensures agrees { is_ok result ≡ true → Agrees K.reads (ground_of self.now) (states_of self.now) labels.new }
     {
         self.own_count()?;

@@ -1,7 +1,7 @@
 // How a monitor's memory follows its record.
 ghost use Rattle.std.specs.Prelude.{◌≡◌, ◌≤◌, [], length};
 ghost use Rattle.logic.specs.Lawful.{LawfulRecord};
-ghost use Rattle.monitor.specs.Book.{Right, Follows};
+ghost use Rattle.monitor.specs.Book.{Right, FollowsLawful};
 
 use crate::book::{Book, MOST_LABELS};
 use expectations::types::Tally;
@@ -32,8 +32,7 @@ impl Book {
     // declined, since the memory suffices for 64 formulas.
     pub(crate) fn follow<R: Readable>(&mut self, log: &R)
         ensures table { self.new.table ≡ self.old.table }
-        ensures followed { LawfulRecord (R.states log.now) → length (R.states log.now) ≤ 256 →
-            Follows (R.states log.now) self.new }
+        ensures followed { FollowsLawful (R.states log.now) self.new }
     {
         if let Ok(n) = label_whole(&self.table, log, &mut self.cells, &mut self.work) {
             self.count = n;

@@ -4,9 +4,9 @@ ghost use Rattle.answers.specs.Answers.{IsQuery};
 ghost use Rattle.answers.specs.Law.{Ran};
 ghost use Rattle.answers.specs.Lasting.{NeverTakenBack};
 ghost use Rattle.monitor.specs.Live.{table_of, states_of, room_of, count_of, ground_of, Own, IsNew, reply_of, states_after};
-ghost use Rattle.monitor.specs.Whole.{Suffices, RecordLabelled, Agrees};
 ghost use Rattle.runs.specs.Runs.{Enough, TooLittle, RanOn, MadeOver};
 ghost use Rattle.runs.specs.FromEmpty.{FromEmpty};
+ghost use Rattle.runs.specs.Labelled.{EndsLabelled, EndsAnswered, EndsAgreeing};
 
 use answers::types::{Answer, Call};
 use labels::LabelKind;
@@ -128,12 +128,9 @@ pub fn run<K: LabelKind + Copy, R: Growing>(
     ensures unwritten { TooLittle calls.now answers.old → (labels.new ≡ labels.old) × (work.new ≡ work.old) }
     ensures declined { 0 < length (R.Readable.states log) → Enough calls.now answers.old → result.labelled ≡ Err ForeignRecord }
     ensures untouched { 0 < length (R.Readable.states log) → (labels.new ≡ labels.old) × (work.new ≡ work.old) }
-    ensures whole { Enough calls.now answers.old →
-        RecordLabelled K.reads K.reach result.monitor labels.old work.old result.labelled labels.new work.new }
-    ensures enough { Enough calls.now answers.old → Own result.monitor →
-        Suffices K.reach result.monitor labels.old work.old → result.labelled ≡ Ok (length (states_of result.monitor)) }
-    ensures agrees { Enough calls.now answers.old → is_ok result.labelled ≡ true →
-        Agrees K.reads (ground_of result.monitor) (states_of result.monitor) labels.new }
+    ensures whole { EndsLabelled K.reads K.reach calls.now answers.old labels.old work.old result labels.new work.new }
+    ensures enough { EndsAnswered K.reach calls.now answers.old labels.old work.old result }
+    ensures agrees { EndsAgreeing K.reads calls.now answers.old result labels.new }
 {
     let called = call_all(table, log, calls, answers);
     let labelled = match called.answered {
