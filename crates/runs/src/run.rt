@@ -6,7 +6,7 @@ ghost use Rattle.answers.specs.Lasting.{NeverTakenBack};
 ghost use Rattle.monitor.specs.Live.{table_of, states_of, room_of, count_of, ground_of, Own, IsNew, reply_of, states_after};
 ghost use Rattle.runs.specs.Runs.{Enough, TooLittle, RanOn, MadeOver};
 ghost use Rattle.runs.specs.FromEmpty.{FromEmpty};
-ghost use Rattle.runs.specs.Labelled.{EndsLabelled, EndsAnswered, EndsAgreeing};
+ghost use Rattle.runs.specs.Labelled.{EndsLabelled, EndsDeclined, EndsAnswered, EndsAgreeing};
 
 use answers::types::{Answer, Call};
 use labels::LabelKind;
@@ -126,7 +126,7 @@ pub fn run<K: LabelKind + Copy, R: Growing>(
     ensures empty { length (R.Readable.states log) ≡ 0 → FromEmpty result.monitor }
     ensures unlabelled { TooLittle calls.now answers.old → result.labelled ≡ Err MemoryTooShort }
     ensures unwritten { TooLittle calls.now answers.old → (labels.new ≡ labels.old) × (work.new ≡ work.old) }
-    ensures declined { 0 < length (R.Readable.states log) → Enough calls.now answers.old → result.labelled ≡ Err ForeignRecord }
+    ensures declined { EndsDeclined log calls.now answers.old result }
     ensures untouched { 0 < length (R.Readable.states log) → (labels.new ≡ labels.old) × (work.new ≡ work.old) }
     ensures whole { EndsLabelled K.reads K.reach calls.now answers.old labels.old work.old result labels.new work.new }
     ensures enough { EndsAnswered K.reach calls.now answers.old labels.old work.old result }

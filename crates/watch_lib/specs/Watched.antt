@@ -23,7 +23,7 @@ use Rattle.table.specs.declared.finished.Table.{Table}
 use Rattle.table.specs.Tables.{formulas_in, rules_in}
 use Rattle.monitor.specs.declared.live.Monitor.{Monitor}
 use Rattle.monitor.specs.Book.{ground, ground_on}
-use Rattle.monitor.specs.Live.{states_of, ground_of}
+use Rattle.monitor.specs.Live.{states_of, ground_of, state_notices}
 use Rattle.watch_lib.specs.declared.lines.Line.{Line}
 use Rattle.watch_lib.specs.declared.lines.Line.TheVariants.{Told, Refused, End}
 use Rattle.watch_lib.specs.Sums.{summed}
@@ -94,6 +94,10 @@ TracedAfter table used input room lines =
     Traced (ground_on table room) (drop used input) (length (formulas_in table) + length (rules_in table) + 3) lines
 
 module _ {R : Type 0} {G : growing.Ghosts R} {D : readable.Ghosts R} where
+  -- a line for each notice that point c has on the expectation that rule r has of state s is added
+  abbrev pub AddsOfState : Monitor R G D → (c r s : ℕ) → (old new : List Line) → Type 0
+  AddsOfState m c r s old new = Adds c (state_notices m c r s) old new
+
   -- a monitor's step through one line: it was m and is n
   abbrev pub MonitorSteps : Monitor R G D → (text : List ℕ) → (place : ℕ) → Result ℕ Line → Monitor R G D → Type 0
   MonitorSteps m text place result n = Steps (ground_of m) (states_of m) text place result (states_of n)

@@ -3,7 +3,7 @@ ghost use Rattle.std.specs.Prelude.{◌≡◌, ◌<◌, ◌≤◌, length, OnOk}
 ghost use Rattle.std.specs.List.{flat_map};
 ghost use Rattle.std.specs.Option.{option_to_list};
 ghost use Rattle.monitor.specs.Live.{states_of, table_rules, standing_at, state_notices, rule_notices, point_notices};
-ghost use Rattle.watch_lib.specs.Watched.{Adds};
+ghost use Rattle.watch_lib.specs.Watched.{Adds, AddsOfState};
 
 use crate::lines::Line;
 use crate::watcher::Watcher;
@@ -63,7 +63,7 @@ impl<R: Growing> Watcher<R> {
         requires from { 1 ≤ state }
         requires by { state ≤ point }
         requires to { point ≤ length (states_of self.now.monitor) }
-        ensures { OnOk result (Adds point (state_notices self.now.monitor point rule state) lines.old.items lines.new.items) }
+        ensures { OnOk result (AddsOfState self.now.monitor point rule state lines.old.items lines.new.items) }
     {
         // Not by `flatten`: an invariant would have to say what its source and its inner iterators have left.
         for told in self.notices_of(rule, state, point) {
