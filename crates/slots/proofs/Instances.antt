@@ -249,14 +249,31 @@ three_accepted : accepted slots [] first_calls ≡ log_to 3
 unfolding carried_to
 three_accepted = refl
 
+-- all six
+abbrev pub log_calls : List Call
+log_calls = Append (shown 0) ∷ Append (shown 1) ∷ Append (shown 0) ∷ Append (shown 0) ∷ Append (shown 1) ∷ Append (shown 0) ∷ []
+
+six_accepted : accepted slots [] log_calls ≡ double_free_log
+unfolding carried_to
+six_accepted = refl
+
 four_accepted : accepted slots (log_to 3) (Append (shown 0) ∷ []) ≡ log_to 4
 unfolding carried_to
 four_accepted = refl
 
+-- what a list of calls on a new monitor over the slot's table brings
+brought : (cs : List Call) (xs : List State) → accepted slots [] cs ≡ xs → (G : Ground) (start : List State) (calls : List Call) (answers : List (Result Answer Refusal)) (ends : List State) →
+    G ≡ slots → start ≡ [] → calls ≡ cs → Ran G start calls answers ends → ends ≡ xs
+brought cs xs brings G start calls answers ends is-slots empty same ran =
+    (ran.own_record (ap length empty)).0 ∙ ap (λ H. accepted H [] calls) is-slots ∙ ap (accepted slots []) same ∙ brings
+
 pub first_three : (G : Ground) (start : List State) (calls : List Call) (answers : List (Result Answer Refusal)) (ends : List State) →
     G ≡ slots → start ≡ [] → calls ≡ first_calls → Ran G start calls answers ends → ends ≡ log_to 3
-first_three G start calls answers ends is-slots empty same ran =
-    (ran.own_record (ap length empty)).0 ∙ ap (λ H. accepted H [] calls) is-slots ∙ ap (accepted slots []) same ∙ three_accepted
+first_three = brought first_calls (log_to 3) three_accepted
+
+pub all_six : (G : Ground) (start : List State) (calls : List Call) (answers : List (Result Answer Refusal)) (ends : List State) →
+    G ≡ slots → start ≡ [] → calls ≡ log_calls → Ran G start calls answers ends → ends ≡ double_free_log
+all_six = brought log_calls double_free_log six_accepted
 
 -- the next three states, one by one
 pub next_state : (k : ℕ) → k < 3 → after slots (log_to (3 + k)) (Append (get_or (drop 3 double_free_log) k blank)) ≡ log_to (3 + (k + 1))

@@ -14,7 +14,7 @@ mod stop;
 mod story;
 
 use crate::for_good::{refused_over_another, violated_for_good};
-use crate::live::live_standing;
+use crate::live::{labelled_whole, live_standing};
 use crate::log::double_free;
 use crate::rule::{RULE, slot_table};
 use crate::stop::Stop;
@@ -37,14 +37,15 @@ fn ended(rt: &HostRuntime, end: Result<(), Stop>) -> io::Result<()> {
     }
 }
 
-// What the last state says of the slot of state 3, where the list of calls and the live monitor are answered alike.
+// What the last state says of the slot of state 3, where the list of calls, the live monitor and the whole labelling agree on it.
 fn last_standing() -> Result<Option<Standing>, Defect>
     ensures { result ≡ Ok (Some (Violated 4)) }
 {
     let [.., last] = violated_for_good()?;
     let live = live_standing()?;
-    Ok(match (last, live) {
-        (Ok(Answer::Stands(told)), Ok(standing)) if told == standing => Some(standing),
+    let whole = labelled_whole()?;
+    Ok(match (last, live, whole) {
+        (Ok(Answer::Stands(told)), Ok(now), (Ok(_), false)) if told == now => Some(now),
         _ => None,
     })
 }
