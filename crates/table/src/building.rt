@@ -35,7 +35,8 @@ fn in_range(formula: Formula) -> bool
 fn parts_below(formula: Formula, n: usize) -> bool
     ensures { Decides result (EachPart (λ g. g < n) formula) }
 {
-    formula.parts().into_iter().flatten().all(|part| part < n)
+    let [first, second] = formula.parts();
+    first.is_none_or(|part| part < n) && second.is_none_or(|part| part < n)
 }
 
 // Whether a formula is loose, from the flags of its parts.
@@ -46,11 +47,10 @@ fn is_loose(formula: Formula, flags: &[bool]) -> bool
     match formula {
         Formula::Variable | Formula::Reference(_) => true,
         Formula::Bind(_) | Formula::Some(_, _) => false,
-        _ => formula
-            .parts()
-            .into_iter()
-            .flatten()
-            .any(|part| flags[part]),
+        _ => {
+            let [first, second] = formula.parts();
+            first.is_some_and(|part| flags[part]) || second.is_some_and(|part| flags[part])
+        }
     }
 }
 
