@@ -44,7 +44,9 @@ pub fn first_unlawful<R: Readable>(log: &R) -> Result<(), Refusal>
 {
     // One flag for each nominal: fixed memory, for there is no heap.
     let mut seen = [false; 256];
-    for i in 1..=log.count() {
+    // From 0: an inclusive range is stepped with a flag and two comparisons more, at each state.
+    for p in 0..log.count() {
+        let i = p + 1;
         let state = log.state(i);
         let nominal = usize::from(state.nominal);
         if was_seen(nominal, &seen) {
@@ -62,7 +64,7 @@ pub fn first_unlawful<R: Readable>(log: &R) -> Result<(), Refusal>
 fn is_taken<R: Readable>(log: &R, state: State) -> bool
     ensures { Decides result (NominalTaken (joined (R.states log.now) state) (length (R.states log.now) + 1)) }
 {
-    state.nominal > 0 && (1..=log.count()).any(|i| log.state(i).nominal == state.nominal)
+    state.nominal > 0 && (0..log.count()).any(|p| log.state(p + 1).nominal == state.nominal)
 }
 
 // Refuses a state that may not follow those of a record; a record of 256 states is not continued.
