@@ -134,9 +134,15 @@ pub(crate) fn label_since<K: LabelKind + Copy>(a: &[K], b: &[K], own: &mut [K])
     ensures told { Combined K.reads K.reach (length own.old) since a.now b.now own.new }
 {
     let mut carried = K::false_from(1);
-    // By place in a and b: after a loop over `iter_mut().zip(..)` nothing is known of the cells.
+    // By place in a and b: after a loop over `iter_mut().zip(..)` nothing is known of the cells. To see a label from a place on is
+    // to meet it with what is true from there on and to join it with what is false from there on. Both are done with the parts
+    // first, so that only two steps wait for the label before.
     for (p, cell) in own.iter_mut().enumerate() {
-        carried = b[p].or(a[p].and(carried.seen_from(p + 1)));
+        let here = a[p];
+        let kept = here.and(K::true_from(p + 1));
+        let missed = here.and(K::false_from(p + 1));
+        let begun = b[p].or(missed);
+        carried = begun.or(kept.and(carried));
         *cell = carried;
     }
 }
