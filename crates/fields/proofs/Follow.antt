@@ -1,4 +1,4 @@
-use Rattle.std.proofs.Common.{◌≡◌, ℕ, ◌+◌, ◌<◌, ◌⊎◌, List, [], ◌∷◌, ◌++◌, length, sym, refl, ◌∙◌, subst, inl, inr, ⊎_elim, arith}
+use Rattle.std.proofs.Common.{◌≡◌, ℕ, ◌+◌, ◌<◌, ◌≤◌, ◌⊎◌, List, [], ◌∷◌, ◌++◌, length, take, sym, refl, ap, ◌∙◌, subst, inl, inr, ⊎_elim, arith}
 use Rattle.fields.specs.Runs.{Run}
 
 module _ {A : Type 0} (Line : ℕ → A → List ℕ → List ℕ → Type 0) where
@@ -44,3 +44,13 @@ module _ {A : Type 0} (Line : ℕ → A → List ℕ → List ℕ → Type 0) wh
       (λ (h : Shorter (k + 1) xs ys r ⊎ Shorter (k + 1) ys xs s).
       inr (⊎_elim (λ (w : Shorter (k + 1) xs ys r). inl (shorter_by k x y xs ys r w)) (λ (w : Shorter (k + 1) ys xs s). inr (shorter_by k y x ys xs s w)) h))
       (compared one (k + 1) xs ys u r s p (subst (λ z. Run Line (k + 1) ys z s) (sym d.1) q))
+
+  -- a run that is no longer is the beginning of the other
+  pub beginning : OneWay → (k : ℕ) (xs ys : List A) (text r s : List ℕ) → Run Line k xs text r → Run Line k ys text s → length xs ≤ length ys → take (length xs) ys ≡ xs
+  beginning one k [] [] text r s p q h = refl
+  beginning one k [] (y ∷ ys) text r s p q h = refl
+  beginning one k (x ∷ xs) [] text r s p q h = absurd (omega arith)
+  beginning one k (x ∷ xs) (y ∷ ys) text r s (u, l, p) (v, m, q) h =
+      let d = one k x y text u v l m in
+      let t : take (length xs) ys ≡ xs = beginning one (k + 1) xs ys u r s p (subst (λ z. Run Line (k + 1) ys z s) (sym d.1) q) (omega arith) in
+      ap (λ z. z ∷ take (length xs) ys) (sym d.0) ∙ ap (λ z. x ∷ z) t

@@ -7,6 +7,15 @@ use Rattle.std.proofs.lemmas.List.{take_rest, drop_at, drop-drop, drop_all, appe
 use Rattle.fields.specs.Lines as lines
 use Rattle.words.specs.Words.{word}
 use Rattle.words.specs.declared.Operator.{Operator}
+use Rattle.keys.specs.Keys.{count_text, trace_text, formula_text, rule_text}
+use Rattle.keys.specs.declared.CountKey.{CountKey}
+use Rattle.keys.specs.declared.CountKey.TheVariants as count
+use Rattle.keys.specs.declared.TraceKey.{TraceKey}
+use Rattle.keys.specs.declared.TraceKey.TheVariants as trace
+use Rattle.keys.specs.declared.FormulaKey.{FormulaKey}
+use Rattle.keys.specs.declared.FormulaKey.TheVariants as formula
+use Rattle.keys.specs.declared.RuleKey.{RuleKey}
+use Rattle.keys.specs.declared.RuleKey.TheVariants as rule
 use Rattle.fields.specs.declared.parts.Field.{Field}
 use Rattle.fields.specs.declared.parts.Field.TheVariants.{Word, Number, End}
 use Rattle.fields.specs.Fields.{Stop, Solid, Part, Digit, Under, Took, NoNumber, NoOperator}
@@ -125,3 +134,28 @@ keyed_after line key u at h e' =
     let n : length line - at ≡ length key + length u = sym (length-drop at line) ∙ ap length e ∙ length-append key u in
     let d : drop (at + length key) line ≡ u = sym (drop-drop (length key) at line) ∙ ap (drop (length key)) e ∙ drop_at key u (length key) refl in
     e ∙ ap (λ z. key ++ z) (sym d ∙ ap (λ z. drop z line) (omega (arith, n, h)))
+
+-- no key is empty
+pub count_key_some : (k : CountKey) (u : List ℕ) → count_text k ++ u ≡ [] → ⊥
+count_key_some count.Formulas u e = omega (arith, ap length e)
+count_key_some count.Rules u e = omega (arith, ap length e)
+
+pub trace_key_some : (k : TraceKey) (u : List ℕ) → trace_text k ++ u ≡ [] → ⊥
+trace_key_some trace.State u e = omega (arith, ap length e)
+trace_key_some trace.Signals u e = omega (arith, ap length e)
+trace_key_some trace.Mark u e = omega (arith, ap length e)
+trace_key_some trace.FirstKind u e = omega (arith, ap length e)
+trace_key_some trace.FirstTarget u e = omega (arith, ap length e)
+trace_key_some trace.SecondKind u e = omega (arith, ap length e)
+trace_key_some trace.SecondTarget u e = omega (arith, ap length e)
+
+pub formula_key_some : (k : FormulaKey) (u : List ℕ) → formula_text k ++ u ≡ [] → ⊥
+formula_key_some formula.Number u e = omega (arith, ap length e)
+formula_key_some formula.Operator u e = omega (arith, ap length e)
+formula_key_some formula.First u e = omega (arith, ap length e)
+formula_key_some formula.Second u e = omega (arith, ap length e)
+
+pub rule_key_some : (k : RuleKey) (u : List ℕ) → rule_text k ++ u ≡ [] → ⊥
+rule_key_some rule.Number u e = omega (arith, ap length e)
+rule_key_some rule.When u e = omega (arith, ap length e)
+rule_key_some rule.Expect u e = omega (arith, ap length e)

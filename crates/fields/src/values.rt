@@ -31,6 +31,13 @@ impl<'a> Fields<'a> {
         self.at == self.line.len()
     }
 
+    // What of the line is not read yet. So the place that reading has come to is the line's length less that of this.
+    pub fn rest(&self) -> &'a [u8]
+        ensures { result.now ≡ rest_of self.now }
+    {
+        self.line.split_at(self.at).1
+    }
+
     // What stands under a key that comes next.
     fn under<K: LineKey>(&self, key: K) -> Option<Field<'a>>
         ensures { FindsUnder self.now.line.now (rest_of self.now) (K.written key) result }

@@ -1,8 +1,12 @@
-use Rattle.std.proofs.Common.{◌≡◌, ℕ, ◌+◌, ◌-◌, List, length, sym, ◌∙◌, subst, inr, arith}
+use Rattle.std.proofs.Common.{◌≡◌, ℕ, ◌+◌, ◌-◌, List, length, Err, sym, ap, ◌∙◌, subst, inr, ⊎_elim, arith}
+use Rattle.std.proofs.lemmas.List.{length-map}
 use Rattle.table.specs.declared.draft.Draft.{Draft}
-use Rattle.table.specs.Tables.{formulas_of, rules_of}
+use Rattle.table.specs.Tables.{formulas_of, rules_of, Finished}
+use Rattle.table.specs.declared.defects.Defect.{Defect}
+use Rattle.table.specs.declared.defects.Defect.TheVariants.{OutOfRange, PartNotBelow, NoSuchFormula, LooseRule}
 use Rattle.faults.specs.declared.read.ReadFault.{ReadFault}
 use Rattle.rulelines.specs.declared.entries.Entry.{Entry}
+use Rattle.rulelines.specs.Meanings.{meaning}
 use Rattle.rulestexts.specs.declared.sections.Section.{Section}
 use Rattle.rulestexts.specs.Blocks.{Begins, Stops}
 use Rattle.rulestexts.specs.Sections.{rule_block}
@@ -32,3 +36,14 @@ module _ (text : List ℕ) (a : Section) (vs : List Entry) (h : FormulasRead tex
         within = omega arith;
       } in
       subst (λ (z : Draft). Whole text (formulas_of z) (rules_of z) (length text - length b.rest.now)) (sym e) w
+
+  -- both blocks have lines, so the table is finished
+  pub finishes : (b : Section) → RulesRead a.rest.now (formulas_of a.draft) b → (why : Defect) → Finished b.draft (Err why) → ⊥
+  finishes b r OutOfRange x =
+      let f : length (formulas_of b.draft) ≡ a.count = ap length (r.same ∙ h.means) ∙ length-map vs meaning ∙ sym h.count in
+      ⊎_elim
+      (λ (e : length (formulas_of b.draft) ≡ 0). omega (arith, f, h.some))
+      (λ (e : length (rules_of b.draft) ≡ 0). omega (arith, r.count, r.some)) x
+  finishes b r PartNotBelow x = x
+  finishes b r NoSuchFormula x = x
+  finishes b r LooseRule x = x

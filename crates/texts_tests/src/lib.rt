@@ -4,6 +4,8 @@
 #[cfg(test)]
 mod asks;
 #[cfg(test)]
+mod fields_read;
+#[cfg(test)]
 mod limits;
 #[cfg(test)]
 mod records_read;
