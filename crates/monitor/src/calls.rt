@@ -202,7 +202,8 @@ impl<R: Growing> Monitor<R> {
         ensures enough { AnsweredIfEnough K.reach self.now labels.old work.old result }
         ensures agrees { is_ok result ≡ true → Agrees K.reads (ground_of self.now) (states_of self.now) labels.new }
     {
-        self.own_count()?;
+        // Named, so that an edit can turn this test alone.
+        let _own = self.own_count()?;
         label_whole(&self.book.table, &self.log, labels, work)
     }
 }
