@@ -19,6 +19,10 @@ abbrev pub TooLittle : List Call → List (Result Answer Refusal) → Type 0
 TooLittle calls answers = length answers < length calls
 
 module _ {R : Type 0} {G : growing.Ghosts R} {D : readable.Ghosts R} where
+  -- the answers to the calls on a monitor, and the states that it then has as m
+  abbrev pub RanFrom : Monitor R G D → List Call → List (Result Answer Refusal) → Monitor R G D → Type 0
+  RanFrom old calls answers m = Ran (ground_of old) (states_of old) calls answers (states_of m)
+
   -- the answers to the calls on a new monitor over the table and the record, and the states that the monitor m then has
   abbrev pub RanOn : Table → R → List Call → List (Result Answer Refusal) → Monitor R G D → Type 0
   RanOn table log calls answers m = Ran (ground_on table (G.room log)) (D.states log) calls answers (states_of m)

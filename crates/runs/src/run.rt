@@ -4,7 +4,7 @@ ghost use Rattle.answers.specs.Answers.{IsQuery};
 ghost use Rattle.answers.specs.Law.{Ran};
 ghost use Rattle.answers.specs.Lasting.{NeverTakenBack};
 ghost use Rattle.monitor.specs.Live.{table_of, states_of, room_of, count_of, ground_of, Own, IsNew, reply_of, states_after};
-ghost use Rattle.runs.specs.Runs.{Enough, TooLittle, RanOn, MadeOver};
+ghost use Rattle.runs.specs.Runs.{Enough, TooLittle, RanFrom, RanOn, MadeOver};
 ghost use Rattle.runs.specs.FromEmpty.{FromEmpty};
 ghost use Rattle.runs.specs.Labelled.{EndsLabelled, EndsDeclined, EndsAnswered, EndsAgreeing};
 
@@ -56,6 +56,41 @@ fn reply_all<R: Growing>(
     }
 }
 
+// A new monitor. Never inlined: what making it takes of the stack, two monitors more, is free again when the calls are made.
+#[inline(never)]
+fn new_monitor<R: Growing>(table: Table, log: R) -> Monitor<R>
+    ensures { IsNew table log result }
+{
+    Monitor::new(table, log)
+}
+
+// Carries out the calls as `reply_all` does, and answers how many there were. Memory for fewer answers than calls is refused, and
+// nothing is called. It changes the monitor in its place, so that a caller holds one, and no copy of it.
+fn answer_all<R: Growing>(
+    monitor: &mut Monitor<R>,
+    calls: &[Call],
+    answers: &mut [Result<Answer, Refusal>],
+) -> Result<usize, Refusal>
+    requires fresh { count_of monitor.old ≡ 0 }
+    ensures refused { TooLittle calls.now answers.old → result ≡ Err MemoryTooShort }
+    ensures uncalled { TooLittle calls.now answers.old → monitor.new ≡ monitor.old }
+    ensures unused { TooLittle calls.now answers.old → answers.new ≡ answers.old }
+    ensures answered { Enough calls.now answers.old → result ≡ Ok (length calls.now) }
+    ensures ran { Enough calls.now answers.old → RanFrom monitor.old calls.now answers.new monitor.new }
+    ensures for_good { Enough calls.now answers.old → NeverTakenBack calls.now answers.new }
+    ensures later { drop (length calls.now) answers.new ≡ drop (length calls.now) answers.old }
+    ensures foreign { 0 < length (states_of monitor.old) → monitor.new ≡ monitor.old }
+    ensures empty { length (states_of monitor.old) ≡ 0 → FromEmpty monitor.new }
+    ensures table { table_of monitor.new ≡ table_of monitor.old }
+    ensures room { room_of monitor.new ≡ room_of monitor.old }
+{
+    if answers.len() < calls.len() {
+        return Err(Refusal::MemoryTooShort);
+    }
+    reply_all(monitor, calls, answers);
+    Ok(calls.len())
+}
+
 // What a list of calls on a new monitor leaves: the monitor, and how many calls were answered.
 #[derive(Drop)]
 pub struct Called<R: Growing> {
@@ -82,18 +117,13 @@ pub fn call_all<R: Growing>(
     ensures foreign { 0 < length (R.Readable.states log) → IsNew table log result.monitor }
     ensures empty { length (R.Readable.states log) ≡ 0 → FromEmpty result.monitor }
 {
-    let mut monitor = Monitor::new(table, log);
-    if answers.len() < calls.len() {
-        return Called {
-            monitor,
-            answered: Err(Refusal::MemoryTooShort),
-        };
-    }
-    reply_all(&mut monitor, calls, answers);
-    Called {
-        monitor,
-        answered: Ok(calls.len()),
-    }
+    // Made where it is handed back, so that the monitor is not moved; the answer is put in after the calls.
+    let mut called = Called {
+        monitor: new_monitor(table, log),
+        answered: Err(Refusal::MemoryTooShort),
+    };
+    called.answered = answer_all(&mut called.monitor, calls, answers);
+    called
 }
 
 // What a list of calls on a new monitor leaves, and how many states of its record were then labelled whole.
@@ -132,14 +162,18 @@ pub fn run<K: LabelKind + Copy, R: Growing>(
     ensures enough { EndsAnswered K.reach calls.now answers.old labels.old work.old result }
     ensures agrees { EndsAgreeing K.reads calls.now answers.old result labels.new }
 {
-    let called = call_all(table, log, calls, answers);
-    let labelled = match called.answered {
-        Ok(_) => called.monitor.label_record(labels, work),
-        Err(refusal) => Err(refusal),
-    };
+    let mut monitor = new_monitor(table, log);
+    if let Err(refusal) = answer_all(&mut monitor, calls, answers) {
+        return Outcome {
+            monitor,
+            answered: Err(refusal),
+            labelled: Err(refusal),
+        };
+    }
+    let labelled = monitor.label_record(labels, work);
     Outcome {
-        monitor: called.monitor,
-        answered: called.answered,
+        monitor,
+        answered: Ok(calls.len()),
         labelled,
     }
 }
