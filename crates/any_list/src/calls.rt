@@ -35,7 +35,10 @@ const REPLY_TO_SECOND: State = State {
     ..REPLY
 };
 
-pub const CALLS: [Call; 24] = [
+// How many calls there are.
+pub const CALL_COUNT: usize = 24;
+
+pub const CALLS: [Call; CALL_COUNT] = [
     Call::LabelAt(0, 1, 1),
     Call::NoticeOf(1, 0),
     Call::Append(NAMED_REQUEST),

@@ -2,7 +2,7 @@
 ghost use Rattle.std.specs.Prelude.{◌≡◌, ◌≤◌, true, false};
 ghost use Rattle.any_list.specs.Replies.{read};
 
-use crate::calls::CALLS;
+use crate::calls::{CALL_COUNT, CALLS};
 use answers::types::Answer;
 use expectations::types::Verdict;
 use labels::LabelKind;
@@ -44,17 +44,17 @@ fn print_labels<K: LabelKind + Copy>(rt: &HostRuntime, labels: &[K]) -> io::Resu
     Ok(())
 }
 
-// Carries out the calls on a new monitor over the record, and prints their answers and the labels of the whole record.
+// Carries out the calls on a new monitor over the record, and prints their answers and the labels of the whole record, which are
+// made in memory that is lent: nothing is allocated, so that no call ends for want of memory.
 pub(crate) fn print_run<K: LabelKind + Copy, R: Growing + Drop>(
     rt: &HostRuntime,
     table: Table,
     log: R,
+    labels: &mut [K],
+    work: &mut [K],
 ) -> io::Result<()> {
-    let cells = table.formulas().len() * STATES;
-    let mut answers = vec![in rt.alloc(); Ok(Answer::Tells(None)); CALLS.len()]?;
-    let mut labels = vec![in rt.alloc(); K::unknown(); cells]?;
-    let mut work = vec![in rt.alloc(); K::unknown(); cells]?;
-    let outcome = run(table, log, &CALLS, &mut answers, &mut labels, &mut work);
+    let mut answers = [Ok(Answer::Tells(None)); CALL_COUNT];
+    let outcome = run(table, log, &CALLS, &mut answers, labels, work);
     match outcome.answered {
         Ok(_) => {
             for answer in &answers {
@@ -66,7 +66,7 @@ pub(crate) fn print_run<K: LabelKind + Copy, R: Growing + Drop>(
     match outcome.labelled {
         Ok(n) => {
             println!(rt; "labelled={n}")?;
-            print_labels(rt, &labels)
+            print_labels(rt, labels)
         }
         Err(refusal) => println!(rt; "{refusal}"),
     }
